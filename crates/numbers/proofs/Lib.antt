@@ -1,0 +1,3 @@
+-- The laws of `numbers`.
+pub mod Little
+pub mod Cells

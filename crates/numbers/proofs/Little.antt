@@ -1,0 +1,166 @@
+-- The laws of little-endian numbers, each once over the width. Assumes nothing.
+use mathlib.Core.Path.{_≡_, refl, sym, ap, _∙_}
+use mathlib.Core.List.{List, [], _∷_, _++_}
+use mathlib.Core.Logic.{_⊎_}
+use Prim.Native.Nat.{ℕ, zero, suc, _+_, _*_, _/_, _%_, _^_, _≤_, _<_}
+use native.Mathlib.Omega.{arith}
+use native.Mathlib.Numerals.{add-one}
+use native.Mathlib.Nat.{zero-add, suc-add, mul-assoc, mul-comm, add-zero, mul-zero, one-mul, div-one, pow-zero, pow-suc, div-div-eq-div-mul}
+use lib.Arith.{mod-mul}
+use lib.ListN.{length, getD, set, take, drop}
+use lib.Seq.{getD-drop, sets-eq}
+use Rattle.runs.specs.Parts.{nth, part, laid, Bytes}
+use Rattle.runs.proofs.Parts.{below-or-not, part-length, part-past, part-short, part-bytes, part-split, part-laid, laid-length, laid-laid, laid-bytes}
+use Rattle.runs.proofs.Frames.{kept-laid, kept-part}
+use Rattle.numbers.specs.Little.{little, spell, load, store}
+
+pub pos : (w : ℕ) → 0 < 256 ^ w
+pos zero = omega (arith, pow-zero 256)
+pos (suc w) = omega (arith, pow-suc 256 w, pos w)
+
+-- BYTES AND THE NUMBER THAT THEY ARE
+
+pub spell-length : (w v : ℕ) → length (spell w v) ≡ w
+unfolding spell
+spell-length zero v = refl
+spell-length (suc w) v = ap suc (spell-length w (v / 256))
+
+pub spell-bytes : (w v : ℕ) → Bytes (spell w v)
+unfolding spell nth
+spell-bytes zero v j = omega arith
+spell-bytes (suc w) v zero = omega arith
+spell-bytes (suc w) v (suc j) = spell-bytes w (v / 256) j
+
+-- in two parts, the lower first
+pub little-append : (xs ys : List ℕ) → little (xs ++ ys) ≡ little xs + 256 ^ length xs * little ys
+unfolding little
+little-append [] ys = simp (zero-add, pow-zero, one-mul)
+little-append (x ∷ xs) ys =
+    rw (pow-suc 256 (length xs)) (omega (arith, little-append xs ys, mul-assoc 256 (256 ^ length xs) (little ys), mul-comm 256 (256 ^ length xs)))
+
+pub spell-split : (m n v : ℕ) → spell (m + n) v ≡ spell m v ++ spell n (v / 256 ^ m)
+unfolding spell
+spell-split zero n v = simp (zero-add, pow-zero, div-one)
+spell-split (suc m) n v =
+    rw (suc-add m n, pow-suc 256 m) (rw (div-div-eq-div-mul v 256 (256 ^ m), mul-comm 256 (256 ^ m)) at (ap (λ (l : List ℕ). v % 256 ∷ l) (spell-split m n (v / 256))))
+
+-- only the lowest w bytes count
+pub spell-mod : (w v : ℕ) → spell w (v % 256 ^ w) ≡ spell w v
+unfolding spell
+spell-mod zero v = refl
+spell-mod (suc w) v =
+    let e : v % (256 ^ w * 256) ≡ (v / 256 % 256 ^ w) * 256 + v % 256 = mod-mul v (pos w) (omega arith) in
+    let a : v % (256 ^ w * 256) % 256 ≡ v % 256 = omega arith in
+    let d : v % (256 ^ w * 256) / 256 ≡ v / 256 % 256 ^ w = omega arith in
+    rw (pow-suc 256 w, a, d) (ap (λ (l : List ℕ). v % 256 ∷ l) (spell-mod w (v / 256)))
+
+-- there and back
+pub little-spell : (w v : ℕ) → v < 256 ^ w → little (spell w v) ≡ v
+unfolding little spell
+little-spell zero v h = omega (arith, pow-zero 256)
+little-spell (suc w) v h = omega (arith, little-spell w (v / 256) (omega (arith, pow-suc 256 w)))
+
+pub spell-little : (xs : List ℕ) → Bytes xs → spell (length xs) (little xs) ≡ xs
+unfolding little spell nth
+spell-little [] b = refl
+spell-little (x ∷ xs) b =
+    let h : x < 256 = b 0 in
+    let m : (x + 256 * little xs) % 256 ≡ x = omega arith in
+    let d : (x + 256 * little xs) / 256 ≡ little xs = omega arith in
+    rw (m, d) (ap (λ (l : List ℕ). x ∷ l) (spell-little xs (λ j. b (suc j))))
+
+-- some bytes are less than 256 to their number
+pub little-lt : (w : ℕ) (xs : List ℕ) → Bytes xs → length xs ≤ w → little xs < 256 ^ w
+unfolding little nth
+little-lt w [] b h = pos w
+little-lt zero (x ∷ xs) b h = absurd (omega arith)
+little-lt (suc w) (x ∷ xs) b h = omega (arith, pow-suc 256 w, b 0, little-lt w xs (λ j. b (suc j)) (omega arith))
+
+pub little-zero : (xs : List ℕ) → ((j : ℕ) → nth xs j ≡ 0) → little xs ≡ 0
+unfolding little nth
+little-zero [] z = refl
+little-zero (x ∷ xs) z = omega (arith, z 0, little-zero xs (λ j. z (suc j)))
+
+-- LOADS AND STORES
+
+pub load-lt : (w : ℕ) (xs : List ℕ) (at : ℕ) → Bytes xs → load w xs at < 256 ^ w
+unfolding load
+load-lt w xs at b = little-lt w (part at w xs) (part-bytes at w xs b) (part-short at w xs)
+
+-- a wide load is two narrow ones
+pub load-split : (m n : ℕ) (xs : List ℕ) (at : ℕ) → load (m + n) xs at ≡ load m xs at + 256 ^ m * load n xs (at + m)
+unfolding load little
+load-split m n xs at =
+    ap little (part-split at m n xs) ∙ little-append (part at m xs) (part (at + m) n xs) ∙ below-or-not (length xs) (at + m) past inside
+  where
+    low : ℕ
+    low = little (part at m xs)
+
+    high : ℕ
+    high = little (part (at + m) n xs)
+
+    inside : at + m ≤ length xs → low + 256 ^ length (part at m xs) * high ≡ low + 256 ^ m * high
+    inside h = ap (λ (l : ℕ). low + 256 ^ l * high) (part-length at m xs h)
+
+    past : length xs < at + m → low + 256 ^ length (part at m xs) * high ≡ low + 256 ^ m * high
+    past h =
+        let z : high ≡ 0 = ap little (part-past (at + m) n xs (omega arith)) in
+        rw (z, mul-zero (256 ^ length (part at m xs)), mul-zero (256 ^ m))
+
+module _ (w : ℕ) (xs : List ℕ) (at v : ℕ) (fits : at + w ≤ length xs) where
+  fits-spelled : at + length (spell w v) ≤ length xs
+  fits-spelled = rw (spell-length w v) fits
+
+  pub store-length : length (store w xs at v) ≡ length xs
+  unfolding store
+  store-length = laid-length xs at (spell w v) fits-spelled
+
+  pub store-bytes : Bytes xs → Bytes (store w xs at v)
+  unfolding store
+  store-bytes b = laid-bytes xs at (spell w v) fits-spelled b (spell-bytes w v)
+
+  -- a load at the place of the store finds what was stored
+  pub load-store : v < 256 ^ w → load w (store w xs at v) at ≡ v
+  unfolding load store
+  load-store h = ap little (rw (spell-length w v) at (part-laid xs at (spell w v) fits-spelled)) ∙ little-spell w v h
+
+  -- a load at a place apart from it finds what was there
+  pub load-store-apart : (u to : ℕ) → to + u ≤ length xs → (to + u ≤ at) ⊎ (at + w ≤ to) → load u (store w xs at v) to ≡ load u xs to
+  unfolding load store
+  load-store-apart u to h o =
+      ap little (kept-part to u (rw (spell-length w v) at (kept-laid xs at (spell w v) fits-spelled)) h o)
+
+-- a wide store is two narrow ones
+pub store-split : (m n : ℕ) (xs : List ℕ) (at v : ℕ) → at + (m + n) ≤ length xs → store (m + n) xs at v ≡ store n (store m xs at v) (at + m) (v / 256 ^ m)
+unfolding store
+store-split m n xs at v h =
+    ap (λ (l : List ℕ). laid xs at l) (spell-split m n v)
+    ∙ sym (rw (spell-length m v) at (laid-laid xs at (spell m v) (spell n (v / 256 ^ m)) (rw (spell-length m v, spell-length n (v / 256 ^ m)) (omega arith))))
+
+pub store-mod : (w : ℕ) (xs : List ℕ) (at v : ℕ) → store w xs at (v % 256 ^ w) ≡ store w xs at v
+unfolding store
+store-mod w xs at v = ap (λ (l : List ℕ). laid xs at l) (spell-mod w v)
+
+-- as two calls make it
+pub store-parts : (m n : ℕ) (xs ys zs : List ℕ) (at v : ℕ) → at + (m + n) ≤ length xs
+    → ys ≡ store m xs at (v % 256 ^ m)
+    → zs ≡ store n ys (at + m) (v / 256 ^ m)
+    → zs ≡ store (m + n) xs at v
+store-parts m n xs ys zs at v h e f = rw (store-split m n xs at v h, ← store-mod m xs at v, ← e) f
+
+-- the narrowest width, byte by byte
+pub load-one : (xs : List ℕ) (at : ℕ) → load 1 xs at ≡ nth xs at
+unfolding load part little nth
+load-one xs at = first (drop at xs) ∙ getD-drop at xs 0 0 ∙ ap (λ (i : ℕ). getD xs i 0) (add-zero at)
+  where
+    first : (ys : List ℕ) → little (take 1 ys) ≡ getD ys 0 0
+    first [] = refl
+    first (y ∷ ys) = omega arith
+
+pub load-two : (xs : List ℕ) (at : ℕ) → load 2 xs at ≡ getD xs at 0 + 256 * getD xs (at + 1) 0
+unfolding nth
+load-two xs at = load-split 1 1 xs at ∙ rw (load-one xs at, load-one xs (at + 1))
+
+pub store-two : (xs : List ℕ) (at v : ℕ) → at + 2 ≤ length xs → store 2 xs at v ≡ set (set xs at (v % 256)) (at + 1) (v / 256 % 256)
+unfolding store laid spell
+store-two xs at v h = rw (add-one at) (sym (sets-eq (v % 256 ∷ v / 256 % 256 ∷ []) xs at h))
