@@ -7,18 +7,18 @@ use native.Mathlib.Omega.{arith}
 use native.Mathlib.Nat.{le-trans, not-suc-le-zero, le-of-suc-le-suc, suc-mul, zero-mul}
 use lib.ListN.{length}
 use Rattle.runs.specs.Parts.{nth, put, part, laid, zeros, Bytes, Kept}
-use Rattle.runs.proofs.Parts.{same-or-not, below-or-not, put-length, nth-put, nth-put-other, nth-past, nth-ext, part-length, part-short, nth-part, part-part, part-laid-in, laid-length, nth-laid-before, nth-laid, nth-laid-after, zeros-length, nth-zeros}
+use Rattle.runs.proofs.Parts.{same-or-not, below-or-not, length-put, nth-put, nth-put-other, nth-past, nth-ext, length-part, part-short, nth-part, part-part, part-laid-in, length-laid, nth-laid-before, nth-laid, nth-laid-after, length-zeros, nth-zeros}
 use Rattle.runs.proofs.Frames.{kept-laid, kept-part}
 use Rattle.numbers.specs.Little.{little, load, store, loads, numbers}
 use Rattle.numbers.specs.Cells.{cells, Put, Laid}
-use Rattle.numbers.proofs.Little.{store-length, load-store, load-store-apart, little-zero}
+use Rattle.numbers.proofs.Little.{length-store, load-store, load-store-apart, little-zero}
 
 -- NUMBERS END TO END
 
-pub loads-length : (w n : ℕ) (xs : List ℕ) (at : ℕ) → length (loads w n xs at) ≡ n
+pub length-loads : (w n : ℕ) (xs : List ℕ) (at : ℕ) → length (loads w n xs at) ≡ n
 unfolding loads
-loads-length w zero xs at = refl
-loads-length w (suc n) xs at = ap suc (loads-length w n xs (at + w))
+length-loads w zero xs at = refl
+length-loads w (suc n) xs at = ap suc (length-loads w n xs (at + w))
 
 pub nth-loads : (w n : ℕ) (xs : List ℕ) (at i : ℕ) → i < n → nth (loads w n xs at) i ≡ load w xs (at + i * w)
 unfolding loads nth
@@ -28,9 +28,9 @@ nth-loads w (suc n) xs at (suc i) h =
     nth-loads w n xs (at + w) i (le-of-suc-le-suc h)
     ∙ (let e : at + w + i * w ≡ at + suc i * w = omega (arith, suc-mul i w) in ap (λ (k : ℕ). load w xs k) e)
 
-pub numbers-length : (w : ℕ) (xs : List ℕ) → length (numbers w xs) ≡ length xs / w
+pub length-numbers : (w : ℕ) (xs : List ℕ) → length (numbers w xs) ≡ length xs / w
 unfolding numbers
-numbers-length w xs = loads-length w (length xs / w) xs 0
+length-numbers w xs = length-loads w (length xs / w) xs 0
 
 pub nth-numbers : (w : ℕ) (xs : List ℕ) (i : ℕ) → i < length xs / w → nth (numbers w xs) i ≡ load w xs (i * w)
 unfolding numbers
@@ -38,36 +38,36 @@ nth-numbers w xs i h = nth-loads w (length xs / w) xs 0 i h ∙ (let e : 0 + i *
 
 -- CELLS
 
-pub cells-length : (xs : List ℕ) → length (cells xs) ≡ length xs / 8
+pub length-cells : (xs : List ℕ) → length (cells xs) ≡ length xs / 8
 unfolding cells
-cells-length xs = numbers-length 8 xs
+length-cells xs = length-numbers 8 xs
 
 pub nth-cells : (xs : List ℕ) (i : ℕ) → i < length (cells xs) → nth (cells xs) i ≡ load 8 xs (i * 8)
 unfolding cells
-nth-cells xs i h = nth-numbers 8 xs i (omega (arith, numbers-length 8 xs))
+nth-cells xs i h = nth-numbers 8 xs i (omega (arith, length-numbers 8 xs))
 
 -- a room's cells are few, so that sums of places fit
 pub cells-small : (xs : List ℕ) → length xs < 2 ^ 64 → length (cells xs) < 2 ^ 61
-cells-small xs h = omega (arith, cells-length xs)
+cells-small xs h = omega (arith, length-cells xs)
 
 cells-long : (xs ys : List ℕ) → length ys ≡ length xs → length (cells ys) ≡ length (cells xs)
-cells-long xs ys e = cells-length ys ∙ ap (λ (n : ℕ). n / 8) e ∙ sym (cells-length xs)
+cells-long xs ys e = length-cells ys ∙ ap (λ (n : ℕ). n / 8) e ∙ sym (length-cells xs)
 
 apart : (j i : ℕ) → (j ≡ i → ⊥) → (j * 8 + 8 ≤ i * 8) ⊎ (i * 8 + 8 ≤ j * 8)
 apart j i n = below-or-not j i (λ h. inl (omega arith)) (λ h. inr (omega arith))
 
 -- a store of 8 bytes at i * 8 sets the cell i
 pub cells-store : (xs : List ℕ) (i v : ℕ) → i < length (cells xs) → v < 2 ^ 64 → cells (store 8 xs (i * 8) v) ≡ put (cells xs) i v
-cells-store xs i v h b = nth-ext (cells ys) (put (cells xs) i v) (long ∙ sym (put-length (cells xs) i v)) each
+cells-store xs i v h b = nth-ext (cells ys) (put (cells xs) i v) (long ∙ sym (length-put (cells xs) i v)) each
   where
     fits : i * 8 + 8 ≤ length xs
-    fits = omega (arith, cells-length xs)
+    fits = omega (arith, length-cells xs)
 
     ys : List ℕ
     ys = store 8 xs (i * 8) v
 
     long : length (cells ys) ≡ length (cells xs)
-    long = cells-long xs ys (store-length 8 xs (i * 8) v fits)
+    long = cells-long xs ys (length-store 8 xs (i * 8) v fits)
 
     each : (j : ℕ) → j < length (cells ys) → nth (cells ys) j ≡ nth (put (cells xs) i v) j
     each j k =
@@ -75,7 +75,7 @@ cells-store xs i v h b = nth-ext (cells ys) (put (cells xs) i v) (long ∙ sym (
         (λ e. rw e (nth-cells ys i (omega (arith, long)) ∙ load-store 8 xs (i * 8) v fits b ∙ sym (nth-put (cells xs) i v h)))
         (λ n.
         nth-cells ys j k
-        ∙ load-store-apart 8 xs (i * 8) v fits 8 (j * 8) (omega (arith, long, cells-length xs)) (apart j i n)
+        ∙ load-store-apart 8 xs (i * 8) v fits 8 (j * 8) (omega (arith, long, length-cells xs)) (apart j i n)
         ∙ sym (nth-cells xs j (omega (arith, long)))
         ∙ sym (nth-put-other (cells xs) i v j n))
 
@@ -83,16 +83,16 @@ cells-store xs i v h b = nth-ext (cells ys) (put (cells xs) i v) (long ∙ sym (
 
 pub cells-part : (at n : ℕ) (xs : List ℕ) → at + n ≤ length (cells xs) → cells (part (at * 8) (n * 8) xs) ≡ part at n (cells xs)
 unfolding load
-cells-part at n xs h = nth-ext (cells ys) (part at n (cells xs)) (long ∙ sym (part-length at n (cells xs) h)) each
+cells-part at n xs h = nth-ext (cells ys) (part at n (cells xs)) (long ∙ sym (length-part at n (cells xs) h)) each
   where
     ys : List ℕ
     ys = part (at * 8) (n * 8) xs
 
     fits : at * 8 + n * 8 ≤ length xs
-    fits = omega (arith, cells-length xs)
+    fits = omega (arith, length-cells xs)
 
     long : length (cells ys) ≡ n
-    long = omega (arith, cells-length ys, part-length (at * 8) (n * 8) xs fits)
+    long = omega (arith, length-cells ys, length-part (at * 8) (n * 8) xs fits)
 
     each : (j : ℕ) → j < length (cells ys) → nth (cells ys) j ≡ nth (part at n (cells xs)) j
     each j k =
@@ -106,19 +106,19 @@ cells-part at n xs h = nth-ext (cells ys) (part at n (cells xs)) (long ∙ sym (
 pub cells-laid : (xs : List ℕ) (at : ℕ) (ys : List ℕ) (n : ℕ) → length ys ≡ n * 8 → at + n ≤ length (cells xs)
     → cells (laid xs (at * 8) ys) ≡ laid (cells xs) at (cells ys)
 unfolding load
-cells-laid xs at ys n l h = nth-ext (cells zs) (laid (cells xs) at (cells ys)) (long ∙ sym (laid-length (cells xs) at (cells ys) within)) each
+cells-laid xs at ys n l h = nth-ext (cells zs) (laid (cells xs) at (cells ys)) (long ∙ sym (length-laid (cells xs) at (cells ys) within)) each
   where
     fits : at * 8 + length ys ≤ length xs
-    fits = omega (arith, cells-length xs)
+    fits = omega (arith, length-cells xs)
 
     zs : List ℕ
     zs = laid xs (at * 8) ys
 
     long : length (cells zs) ≡ length (cells xs)
-    long = cells-long xs zs (laid-length xs (at * 8) ys fits)
+    long = cells-long xs zs (length-laid xs (at * 8) ys fits)
 
     many : length (cells ys) ≡ n
-    many = omega (arith, cells-length ys)
+    many = omega (arith, length-cells ys)
 
     within : at + length (cells ys) ≤ length (cells xs)
     within = omega (arith, many)
@@ -126,7 +126,7 @@ cells-laid xs at ys n l h = nth-ext (cells zs) (laid (cells xs) at (cells ys)) (
     outside : (j : ℕ) → j < length (cells zs) → (j * 8 + 8 ≤ at * 8) ⊎ (at * 8 + length ys ≤ j * 8) → nth (cells zs) j ≡ nth (cells xs) j
     outside j k o =
         nth-cells zs j k
-        ∙ ap little (kept-part (j * 8) 8 (kept-laid xs (at * 8) ys fits) (omega (arith, long, cells-length xs)) o)
+        ∙ ap little (kept-part (j * 8) 8 (kept-laid xs (at * 8) ys fits) (omega (arith, long, length-cells xs)) o)
         ∙ sym (nth-cells xs j (omega (arith, long)))
 
     inside : (j : ℕ) → j < n → nth (cells zs) (at + j) ≡ nth (laid (cells xs) at (cells ys)) (at + j)
@@ -150,7 +150,7 @@ cells-laid xs at ys n l h = nth-ext (cells zs) (laid (cells xs) at (cells ys)) (
 pub cells-zeros : (n : ℕ) → cells (zeros (n * 8)) ≡ zeros n
 unfolding load
 cells-zeros n =
-    nth-ext (cells (zeros (n * 8))) (zeros n) (long ∙ sym (zeros-length n))
+    nth-ext (cells (zeros (n * 8))) (zeros n) (long ∙ sym (length-zeros n))
     (λ j k. nth-cells (zeros (n * 8)) j k ∙ little-zero (part (j * 8) 8 (zeros (n * 8))) (blank (j * 8)) ∙ sym (nth-zeros n j))
   where
     blank : (at i : ℕ) → nth (part at 8 (zeros (n * 8))) i ≡ 0
@@ -160,13 +160,13 @@ cells-zeros n =
         (λ h. nth-past (part at 8 (zeros (n * 8))) i (le-trans (part-short at 8 (zeros (n * 8))) h))
 
     long : length (cells (zeros (n * 8))) ≡ n
-    long = omega (arith, cells-length (zeros (n * 8)), zeros-length (n * 8))
+    long = omega (arith, length-cells (zeros (n * 8)), length-zeros (n * 8))
 
 -- WHAT THE FUNCTIONS SAY OF A ROOM
 
 module _ (xs ys : List ℕ) where
   pub put-cell : (i v : ℕ) → i < length (cells xs) → v < 2 ^ 64 → ys ≡ store 8 xs (i * 8) v → Put xs ys i v
-  put-cell i v h b e = record { bytes = e; is = is; long = ap length is ∙ put-length (cells xs) i v }
+  put-cell i v h b e = record { bytes = e; is = is; long = ap length is ∙ length-put (cells xs) i v }
     where
       is : cells ys ≡ put (cells xs) i v
       is = ap cells e ∙ cells-store xs i v h b
@@ -179,15 +179,15 @@ module _ (xs ys : List ℕ) where
       is = ap cells e ∙ cells-laid xs at spelt n l h ∙ ap (λ (cs : List ℕ). laid (cells xs) at cs) m
 
       long : length (cells ys) ≡ length (cells xs)
-      long = cells-long xs ys (ap length e ∙ laid-length xs (at * 8) spelt (omega (arith, cells-length xs)))
+      long = cells-long xs ys (ap length e ∙ length-laid xs (at * 8) spelt (omega (arith, length-cells xs)))
 
   pub clear-cells : (at n : ℕ) → at + n ≤ length (cells xs) → ys ≡ laid xs (at * 8) (zeros (n * 8)) → Laid xs ys at (zeros (n * 8)) (zeros n)
-  clear-cells at n h e = laid-cells at n (zeros (n * 8)) (zeros n) (zeros-length (n * 8)) (cells-zeros n) h e
+  clear-cells at n h e = laid-cells at n (zeros (n * 8)) (zeros n) (length-zeros (n * 8)) (cells-zeros n) h e
 
   pub copy-cells : (at from n : ℕ) → at + n ≤ length (cells xs) → from + n ≤ length (cells xs) → ys ≡ laid xs (at * 8) (part (from * 8) (n * 8) xs)
       → Laid xs ys at (part (from * 8) (n * 8) xs) (part from n (cells xs))
   copy-cells at from n h k e =
-      laid-cells at n (part (from * 8) (n * 8) xs) (part from n (cells xs)) (part-length (from * 8) (n * 8) xs (omega (arith, cells-length xs))) (cells-part from n xs k) h e
+      laid-cells at n (part (from * 8) (n * 8) xs) (part from n (cells xs)) (length-part (from * 8) (n * 8) xs (omega (arith, length-cells xs))) (cells-part from n xs k) h e
 
 -- two outcomes that a contract on cells allows are one
 pub put-single : {was is-now is-too : List ℕ} {i v : ℕ} → Put was is-now i v → Put was is-too i v → is-now ≡ is-too

@@ -10,7 +10,7 @@ use lib.Arith.{mod-mul}
 use lib.ListN.{length, getD, set, take, drop}
 use lib.Seq.{getD-drop, sets-eq}
 use Rattle.runs.specs.Parts.{nth, part, laid, Bytes}
-use Rattle.runs.proofs.Parts.{below-or-not, part-length, part-past, part-short, part-bytes, part-split, part-laid, laid-length, laid-laid, laid-bytes}
+use Rattle.runs.proofs.Parts.{below-or-not, length-part, part-past, part-short, part-bytes, part-split, part-laid, length-laid, laid-laid, laid-bytes}
 use Rattle.runs.proofs.Frames.{kept-laid, kept-part}
 use Rattle.numbers.specs.Little.{little, spell, load, store}
 
@@ -20,10 +20,10 @@ pos (suc w) = omega (arith, pow-suc 256 w, pos w)
 
 -- BYTES AND THE NUMBER THAT THEY ARE
 
-pub spell-length : (w v : ℕ) → length (spell w v) ≡ w
+pub length-spell : (w v : ℕ) → length (spell w v) ≡ w
 unfolding spell
-spell-length zero v = refl
-spell-length (suc w) v = ap suc (spell-length w (v / 256))
+length-spell zero v = refl
+length-spell (suc w) v = ap suc (length-spell w (v / 256))
 
 pub spell-bytes : (w v : ℕ) → Bytes (spell w v)
 unfolding spell nth
@@ -100,7 +100,7 @@ load-split m n xs at =
     high = little (part (at + m) n xs)
 
     inside : at + m ≤ length xs → low + 256 ^ length (part at m xs) * high ≡ low + 256 ^ m * high
-    inside h = ap (λ (l : ℕ). low + 256 ^ l * high) (part-length at m xs h)
+    inside h = ap (λ (l : ℕ). low + 256 ^ l * high) (length-part at m xs h)
 
     past : length xs < at + m → low + 256 ^ length (part at m xs) * high ≡ low + 256 ^ m * high
     past h =
@@ -109,11 +109,11 @@ load-split m n xs at =
 
 module _ (w : ℕ) (xs : List ℕ) (at v : ℕ) (fits : at + w ≤ length xs) where
   fits-spelled : at + length (spell w v) ≤ length xs
-  fits-spelled = rw (spell-length w v) fits
+  fits-spelled = rw (length-spell w v) fits
 
-  pub store-length : length (store w xs at v) ≡ length xs
+  pub length-store : length (store w xs at v) ≡ length xs
   unfolding store
-  store-length = laid-length xs at (spell w v) fits-spelled
+  length-store = length-laid xs at (spell w v) fits-spelled
 
   pub store-bytes : Bytes xs → Bytes (store w xs at v)
   unfolding store
@@ -122,20 +122,20 @@ module _ (w : ℕ) (xs : List ℕ) (at v : ℕ) (fits : at + w ≤ length xs) wh
   -- a load at the place of the store finds what was stored
   pub load-store : v < 256 ^ w → load w (store w xs at v) at ≡ v
   unfolding load store
-  load-store h = ap little (rw (spell-length w v) at (part-laid xs at (spell w v) fits-spelled)) ∙ little-spell w v h
+  load-store h = ap little (rw (length-spell w v) at (part-laid xs at (spell w v) fits-spelled)) ∙ little-spell w v h
 
   -- a load at a place apart from it finds what was there
   pub load-store-apart : (u to : ℕ) → to + u ≤ length xs → (to + u ≤ at) ⊎ (at + w ≤ to) → load u (store w xs at v) to ≡ load u xs to
   unfolding load store
   load-store-apart u to h o =
-      ap little (kept-part to u (rw (spell-length w v) at (kept-laid xs at (spell w v) fits-spelled)) h o)
+      ap little (kept-part to u (rw (length-spell w v) at (kept-laid xs at (spell w v) fits-spelled)) h o)
 
 -- a wide store is two narrow ones
 pub store-split : (m n : ℕ) (xs : List ℕ) (at v : ℕ) → at + (m + n) ≤ length xs → store (m + n) xs at v ≡ store n (store m xs at v) (at + m) (v / 256 ^ m)
 unfolding store
 store-split m n xs at v h =
     ap (λ (l : List ℕ). laid xs at l) (spell-split m n v)
-    ∙ sym (rw (spell-length m v) at (laid-laid xs at (spell m v) (spell n (v / 256 ^ m)) (rw (spell-length m v, spell-length n (v / 256 ^ m)) (omega arith))))
+    ∙ sym (rw (length-spell m v) at (laid-laid xs at (spell m v) (spell n (v / 256 ^ m)) (rw (length-spell m v, length-spell n (v / 256 ^ m)) (omega arith))))
 
 pub store-mod : (w : ℕ) (xs : List ℕ) (at v : ℕ) → store w xs at (v % 256 ^ w) ≡ store w xs at v
 unfolding store

@@ -6,7 +6,7 @@ use Prim.Native.Nat.{ℕ, _+_, _<_, _≤_}
 use native.Mathlib.Omega.{arith}
 use lib.ListN.{length}
 use Rattle.runs.specs.Parts.{nth, put, part, laid, Kept}
-use Rattle.runs.proofs.Parts.{put-length, nth-put-other, laid-length, nth-laid-before, nth-laid-after, part-ext}
+use Rattle.runs.proofs.Parts.{length-put, nth-put-other, length-laid, nth-laid-before, nth-laid-after, part-ext}
 
 pub kept-none : (lo hi : ℕ) (xs : List ℕ) → Kept lo hi xs xs
 kept-none lo hi xs = record { long = refl; same = λ j h. refl }
@@ -24,14 +24,14 @@ kept-wide {lo} {hi} {was} {is} l h p q k = record { long = k .long; same = same 
 
 -- a put, and a list laid, change only what they cover
 pub kept-put : (lo hi : ℕ) (xs : List ℕ) (i v : ℕ) → lo ≤ i → i < hi → Kept lo hi xs (put xs i v)
-kept-put lo hi xs i v a b = record { long = put-length xs i v; same = same }
+kept-put lo hi xs i v a b = record { long = length-put xs i v; same = same }
   where
     same : (j : ℕ) → (j < lo) ⊎ (hi ≤ j) → nth (put xs i v) j ≡ nth xs j
     same j (inl h) = nth-put-other xs i v j (omega arith)
     same j (inr h) = nth-put-other xs i v j (omega arith)
 
 pub kept-laid : (xs : List ℕ) (at : ℕ) (ys : List ℕ) → at + length ys ≤ length xs → Kept at (at + length ys) xs (laid xs at ys)
-kept-laid xs at ys f = record { long = laid-length xs at ys f; same = same }
+kept-laid xs at ys f = record { long = length-laid xs at ys f; same = same }
   where
     same : (j : ℕ) → (j < at) ⊎ (at + length ys ≤ j) → nth (laid xs at ys) j ≡ nth xs j
     same j (inl h) = nth-laid-before xs at ys f j h

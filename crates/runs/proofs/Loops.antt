@@ -14,7 +14,7 @@ use Rattle.runs.specs.Parts.{nth, put, part, laid, zeros}
 use Rattle.runs.specs.Order.{compared, same}
 use Rattle.runs.specs.declared.Order.{Order}
 use Rattle.runs.specs.declared.Order.the-variants.{Below, Same, Above}
-use Rattle.runs.proofs.Parts.{part-length, part-lent-on, part-none, part-more, part-cons, laid-none, laid-more, laid-cons, nth-laid-before, nth-laid-after, zeros-length, zeros-more}
+use Rattle.runs.proofs.Parts.{length-part, part-lent-on, part-none, part-more, part-cons, laid-none, laid-more, laid-cons, nth-laid-before, nth-laid-after, length-zeros, zeros-more}
 
 -- CLEARING, from the lowest byte
 
@@ -26,8 +26,8 @@ module _ (xs ys : List ℕ) (at i n : ℕ) where
   pub clear-turn : ys ≡ laid xs at (zeros i) → i < n → at + n ≤ length xs → set ys (at + i) 0 ≡ laid xs at (zeros (i + 1))
   unfolding put
   clear-turn e k h =
-      let m = laid-more xs at (zeros i) 0 (omega (arith, zeros-length i)) in
-      rw (e, zeros-more i) (rw (zeros-length i) at m)
+      let m = laid-more xs at (zeros i) 0 (omega (arith, length-zeros i)) in
+      rw (e, zeros-more i) (rw (length-zeros i) at m)
 
   pub clear-end : ys ≡ laid xs at (zeros i) → i ≤ n → n ≤ i → ys ≡ laid xs at (zeros n)
   clear-end e a b = let z : n ≡ i = omega arith in rw z e
@@ -42,7 +42,7 @@ module _ (xs ys s : List ℕ) (at from i n : ℕ) where
       → set ys (at + i) (getD s (from + i) 0) ≡ laid xs at (part from (i + 1) s)
   unfolding put nth
   copy-turn e j h k =
-      let l : length (part from i s) ≡ i = part-length from i s (omega arith) in
+      let l : length (part from i s) ≡ i = length-part from i s (omega arith) in
       let m = laid-more xs at (part from i s) (getD s (from + i) 0) (omega (arith, l)) in
       rw (e, part-more from i s (omega arith)) (rw l at m)
 
@@ -54,7 +54,7 @@ pub down-turn : (xs ys : List ℕ) (at from i n : ℕ) → ys ≡ laid xs at (pa
     → set ys (at + i) (getD ys (from + i) 0) ≡ laid xs at (part from (i + 1) xs)
 unfolding nth
 down-turn xs ys at from i n e k a h =
-    let l : length (part from i xs) ≡ i = part-length from i xs (omega arith) in
+    let l : length (part from i xs) ≡ i = length-part from i xs (omega arith) in
     let r : getD ys (from + i) 0 ≡ getD xs (from + i) 0 = rw e (nth-laid-after xs at (part from i xs) (omega (arith, l)) (from + i) (omega (arith, l))) in
     rw r (copy-turn xs ys xs at from i n e k (omega arith) h)
 
@@ -67,7 +67,7 @@ module _ (xs ys : List ℕ) (at from n k : ℕ) where
       → set ys (at + (k - 1)) (getD ys (from + (k - 1)) 0) ≡ laid xs (at + (k - 1)) (part (from + (k - 1)) (n - (k - 1)) xs)
   unfolding put nth
   up-turn e f s h r =
-      let l : length (part (from + k) (n - k) xs) ≡ n - k = part-length (from + k) (n - k) xs (omega arith) in
+      let l : length (part (from + k) (n - k) xs) ≡ n - k = length-part (from + k) (n - k) xs (omega arith) in
       let v : getD ys (from + (k - 1)) 0 ≡ getD xs (from + (k - 1)) 0 =
       rw e (nth-laid-before xs (at + k) (part (from + k) (n - k) xs) (omega (arith, l)) (from + (k - 1)) (omega arith)) in
       let a : at + k ≡ at + (k - 1) + 1 = omega arith in

@@ -8,7 +8,7 @@ use native.Mathlib.Nat.{le-trans}
 use native.Mathlib.Numerals.{add-one}
 use native.Mathlib.Decide.{decLt, ℕ-discrete}
 use lib.ListN.{length, getD, set, take, drop, length-append, length-take, length-drop, length-set, length-replicate, getD-replicate, replicate-append-replicate, take-append-drop, drop-of-length-le, List·getD-append, List·getD-eq-default}
-use lib.Seq.{ext-getD, getD-set-same, getD-set-other, getD-take, getD-drop, getD-append-add, take-suc, take-nil, take-all, take-add, drop-drop, drop-cons, length-take-le, set-at, take-at, drop-append-add, append-snoc}
+use lib.Seq.{ext-getD, getD-set-same, getD-set-other, getD-take, getD-drop, getD-append-add, take-suc, take-nil, take-all, take-add, drop-drop, drop-cons, length-take-le, set-at, take-at, drop-append-seam, drop-append-add, append-snoc}
 use Rattle.runs.specs.Parts.{nth, put, part, laid, zeros, Bytes}
 
 -- two cases: j is i, or it is not; j is below i, or it is not
@@ -28,9 +28,9 @@ below-or-not {P} j i f g = go (decLt j i)
 
 -- READING AND WRITING AT A PLACE
 
-pub put-length : (xs : List ℕ) (i v : ℕ) → length (put xs i v) ≡ length xs
+pub length-put : (xs : List ℕ) (i v : ℕ) → length (put xs i v) ≡ length xs
 unfolding put
-put-length xs i v = length-set xs i v
+length-put xs i v = length-set xs i v
 
 pub nth-put : (xs : List ℕ) (i v : ℕ) → i < length xs → nth (put xs i v) i ≡ v
 unfolding nth put
@@ -51,9 +51,9 @@ nth-ext xs ys e f = ext-getD 0 xs ys e f
 
 -- PARTS
 
-pub part-length : (from n : ℕ) (xs : List ℕ) → from + n ≤ length xs → length (part from n xs) ≡ n
+pub length-part : (from n : ℕ) (xs : List ℕ) → from + n ≤ length xs → length (part from n xs) ≡ n
 unfolding part
-part-length from n xs h = simp (length-take, length-drop) (omega arith)
+length-part from n xs h = simp (length-take, length-drop) (omega arith)
 
 pub part-short : (from n : ℕ) (xs : List ℕ) → length (part from n xs) ≤ n
 unfolding part
@@ -88,6 +88,11 @@ pub part-split : (from m n : ℕ) (xs : List ℕ) → part from (m + n) xs ≡ p
 unfolding part
 part-split from m n xs = take-add m n (drop from xs) ∙ ap (λ (l : List ℕ). take m (drop from xs) ++ take n l) (drop-drop m from xs)
 
+-- what stands in the middle of three
+pub part-mid : (xs ys zs : List ℕ) (n : ℕ) → length ys ≡ n → part (length xs) n (xs ++ (ys ++ zs)) ≡ ys
+unfolding part
+part-mid xs ys zs n e = rw (drop-append-seam xs (ys ++ zs)) (take-at ys zs n e)
+
 -- one more at the end, and at the front
 pub part-more : (from n : ℕ) (xs : List ℕ) → from + n < length xs → part from (n + 1) xs ≡ part from n xs ++ (nth xs (from + n) ∷ [])
 unfolding part nth
@@ -102,17 +107,17 @@ pub part-ext : (from n : ℕ) (xs ys : List ℕ) → from + n ≤ length xs → 
     → ((j : ℕ) → j < n → nth xs (from + j) ≡ nth ys (from + j))
     → part from n xs ≡ part from n ys
 part-ext from n xs ys h e f =
-    nth-ext (part from n xs) (part from n ys) (omega (arith, part-length from n xs h, part-length from n ys (omega arith)))
-    (λ j k. let l : j < n = omega (arith, part-length from n xs h) in nth-part from n xs j l ∙ f j l ∙ sym (nth-part from n ys j l))
+    nth-ext (part from n xs) (part from n ys) (omega (arith, length-part from n xs h, length-part from n ys (omega arith)))
+    (λ j k. let l : j < n = omega (arith, length-part from n xs h) in nth-part from n xs j l ∙ f j l ∙ sym (nth-part from n ys j l))
 
 -- a part of a part
 pub part-part : (a m from n : ℕ) (xs : List ℕ) → a + m ≤ n → from + n ≤ length xs → part a m (part from n xs) ≡ part (from + a) m xs
 part-part a m from n xs h k =
-    let l = part-length from n xs k in
+    let l = length-part from n xs k in
     nth-ext (part a m (part from n xs)) (part (from + a) m xs)
-    (omega (arith, part-length a m (part from n xs) (omega (arith, l)), part-length (from + a) m xs (omega arith)))
+    (omega (arith, length-part a m (part from n xs) (omega (arith, l)), length-part (from + a) m xs (omega arith)))
     (λ j i.
-    let j′ : j < m = omega (arith, part-length a m (part from n xs) (omega (arith, l))) in
+    let j′ : j < m = omega (arith, length-part a m (part from n xs) (omega (arith, l))) in
     let s : from + (a + j) ≡ from + a + j = omega arith in
     nth-part a m (part from n xs) j j′ ∙ nth-part from n xs (a + j) (omega arith) ∙ ap (λ (i : ℕ). nth xs i) s ∙ sym (nth-part (from + a) m xs j j′))
 
@@ -132,9 +137,9 @@ module _ (xs : List ℕ) (at : ℕ) (ys : List ℕ) (fits : at + length ys ≤ l
   head-length : length (take at xs ++ ys) ≡ at + length ys
   head-length = simp (length-append, length-take-le at xs (omega arith))
 
-  pub laid-length : length (laid xs at ys) ≡ length xs
+  pub length-laid : length (laid xs at ys) ≡ length xs
   unfolding laid
-  laid-length = simp (length-append, length-take, length-drop) (omega arith)
+  length-laid = simp (length-append, length-take, length-drop) (omega arith)
 
   pub nth-laid-before : (j : ℕ) → j < at → nth (laid xs at ys) j ≡ nth xs j
   unfolding laid nth
@@ -163,14 +168,14 @@ module _ (xs : List ℕ) (at : ℕ) (ys : List ℕ) (fits : at + length ys ≤ l
   -- what was laid stands there
   pub part-laid : part at (length ys) (laid xs at ys) ≡ ys
   part-laid =
-      let l = part-length at (length ys) (laid xs at ys) (omega (arith, laid-length)) in
+      let l = length-part at (length ys) (laid xs at ys) (omega (arith, length-laid)) in
       nth-ext (part at (length ys) (laid xs at ys)) ys l
       (λ j h. nth-part at (length ys) (laid xs at ys) j (omega (arith, l)) ∙ nth-laid j (omega (arith, l)))
 
   -- so does a part of it
   pub part-laid-in : (a m : ℕ) → a + m ≤ length ys → part (at + a) m (laid xs at ys) ≡ part a m ys
   part-laid-in a m h =
-      sym (part-part a m at (length ys) (laid xs at ys) h (omega (arith, laid-length))) ∙ ap (λ (l : List ℕ). part a m l) part-laid
+      sym (part-part a m at (length ys) (laid xs at ys) h (omega (arith, length-laid))) ∙ ap (λ (l : List ℕ). part a m l) part-laid
 
   pub laid-bytes : Bytes xs → Bytes ys → Bytes (laid xs at ys)
   laid-bytes b d j =
@@ -225,13 +230,13 @@ laid-laid xs at ys zs h =
 
 -- ZEROS
 
-pub zeros-length : (n : ℕ) → length (zeros n) ≡ n
+pub length-zeros : (n : ℕ) → length (zeros n) ≡ n
 unfolding zeros
-zeros-length n = length-replicate n 0
+length-zeros n = length-replicate n 0
 
 pub nth-zeros : (n j : ℕ) → nth (zeros n) j ≡ 0
 unfolding zeros nth
-nth-zeros n j = below-or-not j n (λ h. getD-replicate n j 0 0 h) (λ h. List·getD-eq-default (zeros n) 0 (omega (arith, zeros-length n)))
+nth-zeros n j = below-or-not j n (λ h. getD-replicate n j 0 0 h) (λ h. List·getD-eq-default (zeros n) 0 (omega (arith, length-zeros n)))
 
 pub zeros-more : (n : ℕ) → zeros (n + 1) ≡ zeros n ++ (0 ∷ [])
 unfolding zeros

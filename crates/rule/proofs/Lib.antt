@@ -1,0 +1,20 @@
+-- Theorems on the definitions.
+pub mod Places
+pub mod Order
+pub mod Lengths
+pub mod Spelling
+pub mod Seeding
+pub mod Rewriting
+pub mod Reports
+pub mod Counts
+pub mod Choosing
+pub mod Demand
+pub mod Judged
+pub mod Left
+pub mod Reading
+pub mod Merging
+pub mod Plain
+pub mod Bounds
+pub mod Tables
+pub mod Examples
+pub mod Impossible
