@@ -9,7 +9,7 @@ use native.Mathlib.Nat.{zero-add, suc-add, mul-assoc, mul-comm, add-zero, mul-ze
 use lib.Arith.{mod-mul}
 use lib.ListN.{length, getD, set, take, drop}
 use lib.Seq.{getD-drop, sets-eq}
-use Rattle.runs.specs.Parts.{nth, part, laid, Bytes}
+use Rattle.runs.specs.Parts.{nth, part, laid, zeros, Bytes}
 use Rattle.runs.proofs.Parts.{below-or-not, length-part, part-past, part-short, part-bytes, part-split, part-laid, length-laid, laid-laid, laid-bytes}
 use Rattle.runs.proofs.Frames.{kept-laid, kept-part}
 use Rattle.numbers.specs.Little.{little, spell, load, store}
@@ -30,6 +30,11 @@ unfolding spell nth
 spell-bytes zero v j = omega arith
 spell-bytes (suc w) v zero = omega arith
 spell-bytes (suc w) v (suc j) = spell-bytes w (v / 256) j
+
+pub spell-zero : (w : ℕ) → spell w 0 ≡ zeros w
+unfolding spell zeros
+spell-zero zero = refl
+spell-zero (suc w) = ap (λ (l : List ℕ). 0 ∷ l) (spell-zero w)
 
 -- in two parts, the lower first
 pub little-append : (xs ys : List ℕ) → little (xs ++ ys) ≡ little xs + 256 ^ length xs * little ys

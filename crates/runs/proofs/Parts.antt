@@ -238,6 +238,10 @@ pub nth-zeros : (n j : ℕ) → nth (zeros n) j ≡ 0
 unfolding zeros nth
 nth-zeros n j = below-or-not j n (λ h. getD-replicate n j 0 0 h) (λ h. List·getD-eq-default (zeros n) 0 (omega (arith, length-zeros n)))
 
+pub zeros-append : (m n : ℕ) → zeros m ++ zeros n ≡ zeros (m + n)
+unfolding zeros
+zeros-append m n = replicate-append-replicate m n 0
+
 pub zeros-more : (n : ℕ) → zeros (n + 1) ≡ zeros n ++ (0 ∷ [])
 unfolding zeros
 zeros-more n = sym (replicate-append-replicate n 1 0)

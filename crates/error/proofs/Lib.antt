@@ -1,0 +1,3 @@
+-- The laws of `error`: the answer run, and the answers.
+pub mod Told
+pub mod Answers

@@ -1,0 +1,2 @@
+-- The definitions of `error`: what each answer says.
+pub mod Answers

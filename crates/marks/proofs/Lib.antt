@@ -1,0 +1,3 @@
+-- The laws of `marks`.
+pub mod Marks
+pub mod Masks

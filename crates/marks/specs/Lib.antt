@@ -1,0 +1,2 @@
+-- The definitions of `marks`.
+pub mod Marks
