@@ -1,0 +1,4 @@
+-- The laws of `text`: a character at a place of a word, the loops over a word, and the steps of a caller's loop.
+pub mod Places
+pub mod Loops
+pub mod Steps
