@@ -1,0 +1,5 @@
+-- The laws of `spelling`.
+pub mod Prefixes
+pub mod Lengths
+pub mod Writing
+pub mod Units

@@ -1,0 +1,4 @@
+-- The laws of `vocab`.
+pub mod Places
+pub mod Shaped
+pub mod Reading
