@@ -1,0 +1,52 @@
+-- The numbers given in an answer run. Assumes nothing.
+use mathlib.Core.Path.{_≡_, sym, ap, _∙_}
+use mathlib.Core.List.{List, [], _∷_, _++_, append-assoc, append-nil, flatMap}
+use Prim.Native.Nat.{ℕ, _+_, _-_, _≤_}
+use native.Mathlib.Omega.{arith}
+use lib.ListN.{length, drop, length-append, drop-of-length-le}
+use lib.Seq.{drop-at}
+use Rattle.runs.specs.Parts.{laid, zeros}
+use Rattle.runs.proofs.Parts.{length-zeros, zeros-append, laid-laid}
+use Rattle.numbers.specs.Little.{spell, store}
+use Rattle.numbers.proofs.Little.{length-spell}
+use Rattle.rule.specs.Shapes.{spellAll, filled}
+use Rattle.rule.specs.Outcome.{told}
+use Rattle.rule.proofs.Lengths.{length-spellAll}
+
+-- a run set to 0, and what is then written over its front
+pub laid-all : (run : List ℕ) → laid run 0 (zeros (length run)) ≡ zeros (length run)
+unfolding laid
+laid-all run =
+    let z : drop (0 + length (zeros (length run))) run ≡ [] = drop-of-length-le run {i = 0 + length (zeros (length run))} (omega (arith, length-zeros (length run))) in
+    rw z (append-nil (zeros (length run)))
+
+pub laid-filled : (run new : List ℕ) → length new ≤ length run → laid (zeros (length run)) 0 new ≡ filled run new
+unfolding laid filled
+laid-filled run new h =
+    let m : length run ≡ length new + (length run - length new) = omega arith in
+    let z : 0 + length new ≡ length new = omega arith in
+    let d : drop (length new) (zeros (length run)) ≡ zeros (length run - length new) =
+    ap (λ (n : ℕ). drop (length new) (zeros n)) m
+    ∙ ap (λ (l : List ℕ). drop (length new) l) (sym (zeros-append (length new) (length run - length new)))
+    ∙ drop-at (zeros (length new)) (zeros (length run - length new)) (length new) (length-zeros (length new)) in
+    rw (z, d)
+
+module _ (answer : List ℕ) (long : 64 ≤ length answer) where
+  -- as `give` writes them
+  pub given : (p q r : ℕ) (xs ys zs us : List ℕ) → xs ≡ laid answer 0 (zeros (length answer)) → ys ≡ store 8 xs 0 p → zs ≡ store 8 ys 8 q → us ≡ store 8 zs 16 r
+      → us ≡ told answer (p ∷ q ∷ r ∷ [])
+  unfolding told store spellAll flatMap
+  given p q r xs ys zs us ex ey ez eu =
+      let x : xs ≡ zeros (length answer) = ex ∙ laid-all answer in
+      let n : length xs ≡ length answer = ap length x ∙ length-zeros (length answer) in
+      let lp = length-spell 8 p in
+      let lq = length-spell 8 q in
+      let lr = length-spell 8 r in
+      let lpq : length (spell 8 p ++ spell 8 q) ≡ 16 = omega (arith, length-append (spell 8 p) (spell 8 q)) in
+      let z : zs ≡ laid xs 0 (spell 8 p ++ spell 8 q) =
+      ez ∙ ap (λ (l : List ℕ). laid l 8 (spell 8 q)) ey ∙ rw lp at (laid-laid xs 0 (spell 8 p) (spell 8 q) (omega arith)) in
+      let u : us ≡ laid xs 0 ((spell 8 p ++ spell 8 q) ++ spell 8 r) =
+      eu ∙ ap (λ (l : List ℕ). laid l 16 (spell 8 r)) z ∙ rw lpq at (laid-laid xs 0 (spell 8 p ++ spell 8 q) (spell 8 r) (omega arith)) in
+      let s : (spell 8 p ++ spell 8 q) ++ spell 8 r ≡ spellAll 8 (p ∷ q ∷ r ∷ []) =
+      append-assoc (spell 8 p) (spell 8 q) (spell 8 r) ∙ ap (λ (l : List ℕ). spell 8 p ++ (spell 8 q ++ l)) (sym (append-nil (spell 8 r))) in
+      rw s at (rw x at u) ∙ laid-filled answer (spellAll 8 (p ∷ q ∷ r ∷ [])) (omega (arith, length-spellAll 8 (p ∷ q ∷ r ∷ [])))

@@ -1,0 +1,3 @@
+-- The laws of `door`.
+pub mod Given
+pub mod Doors

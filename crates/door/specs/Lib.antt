@@ -1,0 +1,2 @@
+-- The definitions of `door`.
+pub mod Door

@@ -1,0 +1,2 @@
+-- The laws of `step`.
+pub mod Steps

@@ -1,0 +1,2 @@
+-- The definitions of `step`.
+pub mod Step

@@ -1,0 +1,3 @@
+-- The definitions of `symbols`: lists written from the front of a run, and what merging leaves.
+pub mod Writing
+pub mod Merging
