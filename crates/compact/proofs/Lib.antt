@@ -1,0 +1,2 @@
+-- The laws of `compact`.
+pub mod Sliding

@@ -1,0 +1,2 @@
+-- The definitions of `compact`.
+pub mod Compacting

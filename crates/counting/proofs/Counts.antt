@@ -1,0 +1,122 @@
+-- The laws of counting a pair. Assumes nothing.
+use mathlib.Core.Path.{_≡_, refl, sym, ap, _∙_}
+use mathlib.Core.List.{List, [], _∷_}
+use Prim.Native.Nat.{ℕ, _+_, _-_, _*_, _^_, _≤_, _<_}
+use native.Mathlib.Omega.{arith}
+use native.Mathlib.Nat.{mul-le-mul-left}
+use native.Mathlib.Numerals.{add-one}
+use lib.ListN.{length, drop, drop-of-length-le}
+use lib.Seq.{drop-cons}
+use Rattle.runs.specs.Parts.{nth}
+use Rattle.rule.specs.Rewriting.{bit, isPair, link, countIn}
+use Rattle.rule.specs.Seeding.{Entry}
+use Rattle.rule.specs.Training.{count}
+use Rattle.rule.specs.Sums.{symbolsIn}
+use Rattle.rule.proofs.Rewriting.{pair-hit, pair-miss}
+use Rattle.rule.proofs.Counts.{count-length}
+use Rattle.word.specs.Layout.{symbolIn, symbolsAt, corpus, entryAt}
+use Rattle.word.specs.Pushing.{Found}
+use Rattle.word.specs.declared.WordSet.{WordSet}
+use Rattle.word.specs.declared.Span.{Span}
+use Rattle.word.proofs.Views.{symbols-length, symbols-cons, corpus-length}
+use Rattle.counting.specs.Counting.{Tested, Counted}
+
+-- A PAIR, as a number
+module _ (s t p q : ℕ) where
+  pub hit-both : s ≡ p → t ≡ q → Tested p q s t 1
+  hit-both e f = record { is = sym (ap bit (pair-hit p q s t e f)); few = omega arith }
+
+  pub hit-not-left : (s ≡ p → ⊥) → Tested p q s t 0
+  hit-not-left e = record { is = sym (ap bit (pair-miss p q s t (λ h _. e h))); few = omega arith }
+
+  pub hit-not-right : (t ≡ q → ⊥) → Tested p q s t 0
+  hit-not-right e = record { is = sym (ap bit (pair-miss p q s t (λ _ h. e h))); few = omega arith }
+
+-- THE POSITIONS OF A WORD
+
+count-short : (p q : ℕ) (l : List ℕ) → length l ≤ 1 → countIn p q l ≡ 0
+unfolding countIn link
+count-short p q [] h = refl
+count-short p q (s ∷ []) h = refl
+count-short p q (s ∷ t ∷ l) h = absurd (omega arith)
+
+module _ (p q at n : ℕ) (cs : List ℕ) where
+  count-two : 1 < n → at + n ≤ length cs
+      → countIn p q (symbolsAt at n cs) ≡ bit (isPair p q (symbolIn (nth cs at)) (symbolIn (nth cs (at + 1)))) + countIn p q (symbolsAt (at + 1) (n - 1) cs)
+  unfolding countIn link
+  count-two h l =
+      let e : n ≡ n - 2 + 1 + 1 = omega arith in
+      let f : n - 1 ≡ n - 2 + 1 = omega arith in
+      ap (λ (m : ℕ). countIn p q (symbolsAt at m cs)) e
+      ∙ rw (f, symbols-cons at (n - 2 + 1) cs (omega arith), symbols-cons (at + 1) (n - 2) cs (omega arith))
+
+  count-few : n ≤ 1 → at + n ≤ length cs → countIn p q (symbolsAt at n cs) ≡ 0
+  count-few h l = count-short p q (symbolsAt at n cs) (omega (arith, symbols-length at n cs l))
+
+module _ (p q start n : ℕ) (cs : List ℕ) where
+  pub hits-start : countIn p q (symbolsAt start n cs) ≡ 0 + countIn p q (symbolsAt start n cs)
+  hits-start = omega arith
+
+  module _ (at left hits : ℕ) (inv : countIn p q (symbolsAt start n cs) ≡ hits + countIn p q (symbolsAt at left cs)) (room : at + left ≤ length cs) where
+    pub hits-turn : 1 < left → (s t v : ℕ) → s ≡ symbolIn (nth cs at) → t ≡ symbolIn (nth cs (at + 1)) → Tested p q s t v
+        → countIn p q (symbolsAt start n cs) ≡ hits + v + countIn p q (symbolsAt (at + 1) (left - 1) cs)
+    hits-turn h s t v es et ev =
+        let e : v ≡ bit (isPair p q (symbolIn (nth cs at)) (symbolIn (nth cs (at + 1)))) = rw (es, et) at (ev .is) in
+        omega (arith, count-two p q at left cs h room)
+
+    pub hits-end : left ≤ 1 → hits ≡ countIn p q (symbolsAt start n cs)
+    hits-end h = omega (arith, count-few p q at left cs h room)
+
+-- THE WORDS OF A SET
+
+drop-entry : (es : List Entry) (k : ℕ) → k < length es → drop k es ≡ entryAt es k ∷ drop (k + 1) es
+unfolding entryAt
+drop-entry es k h = rw (add-one k) (drop-cons es k (record { frequency = 0; symbols = [] }) h)
+
+module _ (es : List Entry) (k : ℕ) (h : k < length es) where
+  count-rest : (p q : ℕ) → count p q (drop k es) ≡ entryAt es k .frequency * countIn p q (entryAt es k .symbols) + count p q (drop (k + 1) es)
+  unfolding count
+  count-rest p q = rw (drop-entry es k h)
+
+  weight-rest : symbolsIn (drop k es) ≡ entryAt es k .frequency * length (entryAt es k .symbols) + symbolsIn (drop (k + 1) es)
+  unfolding symbolsIn
+  weight-rest = rw (drop-entry es k h)
+
+-- a word's share, as the code makes it
+module _ (w : WordSet) (cs : List ℕ) (k p q sum hits f : ℕ) (r : Span) (h : k < w .count) (light : sum + symbolsIn (drop k (corpus cs (w .starts) (w .count))) < 2 ^ 53)
+    (found : Found w k cs r) (eh : hits ≡ countIn p q (symbolsAt (r .start) (r .length) cs)) (ef : f ≡ entryAt (corpus cs (w .starts) (w .count)) k .frequency) where
+  inside : k < length (corpus cs (w .starts) (w .count))
+  inside = omega (arith, corpus-length cs (w .starts) (w .count))
+
+  hits-are : hits ≡ countIn p q (entryAt (corpus cs (w .starts) (w .count)) k .symbols)
+  hits-are = rw (found .symbols) at eh
+
+  share : f * hits ≤ entryAt (corpus cs (w .starts) (w .count)) k .frequency * length (entryAt (corpus cs (w .starts) (w .count)) k .symbols)
+  share = rw (hits-are, ef) (mul-le-mul-left (entryAt (corpus cs (w .starts) (w .count)) k .frequency) (count-length p q (entryAt (corpus cs (w .starts) (w .count)) k .symbols)))
+
+  pub share-fits : f * hits < 2 ^ 64
+  share-fits = omega (arith, share, weight-rest (corpus cs (w .starts) (w .count)) k inside)
+
+  pub sum-fits : sum + f * hits < 2 ^ 64
+  sum-fits = omega (arith, share, weight-rest (corpus cs (w .starts) (w .count)) k inside)
+
+  pub counted : Counted (corpus cs (w .starts) (w .count)) k p q sum (sum + f * hits)
+  counted = record { is = rw (hits-are, ef); light = omega (arith, share, weight-rest (corpus cs (w .starts) (w .count)) k inside) }
+
+-- the loop
+module _ (p q : ℕ) (w : WordSet) (cs : List ℕ) where
+  pub sum-start : count p q (corpus cs (w .starts) (w .count)) ≡ 0 + count p q (drop 0 (corpus cs (w .starts) (w .count)))
+  sum-start = omega arith
+
+  pub sum-turn : (k sum r : ℕ) → count p q (corpus cs (w .starts) (w .count)) ≡ sum + count p q (drop k (corpus cs (w .starts) (w .count))) → k < w .count
+      → Counted (corpus cs (w .starts) (w .count)) k p q sum r
+      → count p q (corpus cs (w .starts) (w .count)) ≡ r + count p q (drop (k + 1) (corpus cs (w .starts) (w .count)))
+  sum-turn k sum r inv h c =
+      omega (arith, count-rest (corpus cs (w .starts) (w .count)) k (omega (arith, corpus-length cs (w .starts) (w .count))) p q, c .is)
+
+  pub sum-end : (k sum : ℕ) → count p q (corpus cs (w .starts) (w .count)) ≡ sum + count p q (drop k (corpus cs (w .starts) (w .count))) → w .count ≤ k
+      → sum ≡ count p q (corpus cs (w .starts) (w .count))
+  unfolding count
+  sum-end k sum inv h =
+      let l : length (corpus cs (w .starts) (w .count)) ≤ k = omega (arith, corpus-length cs (w .starts) (w .count)) in
+      omega (arith, rw (drop-of-length-le (corpus cs (w .starts) (w .count)) l) at inv)

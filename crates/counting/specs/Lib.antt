@@ -1,0 +1,2 @@
+-- The definitions of `counting`.
+pub mod Counting

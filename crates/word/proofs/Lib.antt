@@ -1,0 +1,4 @@
+-- The laws of `word`.
+pub mod Views
+pub mod Sets
+pub mod Pushing

@@ -1,0 +1,68 @@
+-- Where the words of a set lie in a room of cells, and which words they are: `WordSet` of document 01's port order.
+-- A word at the cell s has its frequency in s, its length in s + 1, and its symbols from s + 2 on. The cell starts + k holds the place of word k,
+-- so that a word's number outlives a move. Words lie in order of their numbers; behind one's symbols there may be a gap, which merging left.
+use mathlib.Core.Path.{_≡_}
+use mathlib.Core.Bool.{Bool}
+use mathlib.Core.List.{List, [], _∷_, map}
+use Prim.Native.Nat.{ℕ, zero, suc, _+_, _-_, _*_, _%_, _^_, _≤_, _<_}
+use lib.Dec.{ltb}
+use lib.ListN.{length, getD}
+use Rattle.runs.specs.Parts.{nth, part}
+use Rattle.rule.specs.Seeding.{Entry}
+use Rattle.word.specs.declared.WordSet.{WordSet}
+
+-- A SYMBOL'S CELL: its low 32 bits are the symbol; the high ones are room for a number beside it, 0 when the symbol is pushed
+unfoldable pub symbolIn : ℕ → ℕ
+symbolIn v = v % 4294967296
+
+-- the n symbols in the cells from a place on
+unfoldable pub symbolsAt : ℕ → ℕ → List ℕ → List ℕ
+symbolsAt at n cs = map symbolIn (part at n cs)
+
+-- the cell behind the symbols of the word at s
+abbrev pub endAt : List ℕ → ℕ → ℕ
+endAt cs s = s + 2 + nth cs (s + 1)
+
+-- the word at s, as its cells stand
+abbrev pub line : List ℕ → ℕ → Entry
+line cs s = record { frequency = nth cs s; symbols = part (s + 2) (nth cs (s + 1)) cs }
+
+-- the n words whose places stand from the cell starts on
+unfoldable pub lines : List ℕ → ℕ → ℕ → List Entry
+lines cs starts zero = []
+lines cs starts (suc n) = line cs (nth cs starts) ∷ lines cs (starts + 1) n
+
+-- THE VIEW: the words by their symbols, "a kept word: its frequency and its symbols"
+abbrev pub bySymbols : Entry → Entry
+bySymbols e = record { frequency = e .frequency; symbols = map symbolIn (e .symbols) }
+
+unfoldable pub corpus : List ℕ → ℕ → ℕ → List Entry
+corpus cs starts n = map bySymbols (lines cs starts n)
+
+-- word k of some words, and past their end one that says nothing
+unfoldable pub entryAt : List Entry → ℕ → Entry
+entryAt es k = getD es k (record { frequency = 0; symbols = [] })
+
+-- "Symbols still in use"
+unfoldable pub inUse : List Entry → ℕ
+inUse [] = 0
+inUse (e ∷ es) = length (e .symbols) + inUse es
+
+-- n words in order between lo and hi, none of which overlaps another
+pub record InLine (cs : List ℕ) (starts n lo hi : ℕ) : Type 0 where
+  pub span : lo ≤ hi
+  pub first : (k : ℕ) → k < n → lo ≤ nth cs (starts + k)
+  pub last : (k : ℕ) → k < n → endAt cs (nth cs (starts + k)) ≤ hi
+  pub order : (i j : ℕ) → i < j → j < n → endAt cs (nth cs (starts + i)) ≤ nth cs (starts + j)
+
+-- THE INVARIANT of a word set in a room: its places lie below its words, its words in line
+pub record Words (w : WordSet) (cs : List ℕ) : Type 0 where
+  pub small : length cs < 2 ^ 61
+  pub room : w .top ≤ length cs
+  pub apart : w .starts + w .count ≤ w .low
+  pub inLine : InLine cs (w .starts) (w .count) (w .low) (w .top)
+  pub used : w .live ≡ inUse (corpus cs (w .starts) (w .count))
+
+-- "Whether merging has left more dead space than live symbols": the span of the symbols, without each word's two cells before them
+unfoldable pub sparse : WordSet → Bool
+sparse w = ltb (2 * w .live) (w .top - w .low - 2 * w .count)
