@@ -14,7 +14,7 @@ use Rattle.word.specs.Pushing.{Placed}
 use Rattle.word.specs.declared.WordSet.{WordSet}
 use Rattle.word.proofs.Views.{symbols-length, corpus-none, corpus-entry, corpus-more, corpus-lines, lines-same, length-moved, line-moved, line-same, inUse-append}
 use Rattle.word.proofs.Sets.{word-symbols, words-room}
-use Rattle.compact.specs.Compacting.{withTop, Compacted, Relocated, Moved, Sliding}
+use Rattle.compact.specs.Compacting.{Compacted, Relocated, Moved, Sliding}
 
 pub relocated : (at s to n : ℕ) (cs ds es : List ℕ) → ds ≡ laid cs to (part s n cs) → length ds ≡ length cs → es ≡ put ds at to → length es ≡ length ds
     → Relocated at s to n cs es
@@ -223,9 +223,10 @@ module _ (w : WordSet) (k to : ℕ) (cs ds : List ℕ) (σ : Sliding w k to cs d
       kept = kept-then (σ .kept) kept-on;
     }
 
-  pub sliding-end : k ≤ w .count → w .count ≤ k → Words w cs → Compacted w cs ds (withTop w to)
+  pub sliding-end : k ≤ w .count → w .count ≤ k → Words w cs → Compacted w cs ds (record { starts = w .starts; count = w .count; low = w .low; top = to; live = w .live })
   sliding-end a b τ = record {
-    numbers = rw top-is;
+    numbers = record { starts-is = refl; count-is = refl; low-is = refl; top-is = top-is; live-is = refl };
+    lower = omega (arith, top-is, words-room w ds (σ .set));
     set = record {
       small = σ .set .small;
       room = omega (arith, top-is, words-room w ds (σ .set), σ .set .room);

@@ -5,19 +5,16 @@ use mathlib.Core.Logic.{_⊎_}
 use Prim.Native.Nat.{ℕ, _+_, _*_, _≤_, _<_}
 use lib.ListN.{length}
 use Rattle.runs.specs.Parts.{nth, put, part, laid, Kept}
-use Rattle.word.specs.Layout.{endAt, line, lines, corpus, inUse, InLine, Words}
+use Rattle.word.specs.Layout.{endAt, line, lines, corpus, inUse, InLine, Words, Numbers}
 use Rattle.word.specs.declared.WordSet.{WordSet}
-
--- the set with another top
-abbrev pub withTop : WordSet → ℕ → WordSet
-withTop w to = record { starts = w .starts; count = w .count; low = w .low; top = to; live = w .live }
 
 -- the words lie without gaps, and are the words that they were, cell by cell; outside of the set nothing changes
 pub record Compacted (w : WordSet) (cs ds : List ℕ) (r : WordSet) : Type 0 where
-  pub numbers : r ≡ withTop w (w .low + w .live + 2 * w .count)
+  pub numbers : Numbers r (w .starts) (w .count) (w .low) (w .low + w .live + 2 * w .count) (w .live)
+  pub lower : r .top ≤ w .top
   pub set : Words r ds
-  pub view : corpus ds (w .starts) (w .count) ≡ corpus cs (w .starts) (w .count)
-  pub whole : lines ds (w .starts) (w .count) ≡ lines cs (w .starts) (w .count)
+  pub view : corpus ds (r .starts) (r .count) ≡ corpus cs (w .starts) (w .count)
+  pub whole : lines ds (r .starts) (r .count) ≡ lines cs (w .starts) (w .count)
   pub kept : Kept (w .starts) (w .top) cs ds
 
 -- n cells from s on are copied to the cell `to`, which is put in the cell `at`

@@ -6,11 +6,11 @@ use Prim.Native.Nat.{ℕ, zero, suc, _+_, _*_, _≤_, _<_}
 use native.Mathlib.Nat.{mul-le-mul-left}
 use native.Mathlib.Omega.{arith}
 use lib.ListN.{length}
-use Rattle.rule.specs.Rewriting.{Span, one, hit, cut, src, out, hits, rewrite, rewrites, reports, countIn}
+use Rattle.rule.specs.Rewriting.{rewrite, reports, countIn}
 use Rattle.rule.specs.Seeding.{Entry}
 use Rattle.rule.specs.Training.{count}
 use Rattle.rule.specs.Sums.{raised, lowered, symbolsIn, rewritesIn, gains, losses}
-use Rattle.rule.proofs.Rewriting.{src-cut, length-rewrite, rewrites-le}
+use Rattle.rule.proofs.Rewriting.{length-rewrite, rewrite-none}
 use Rattle.rule.proofs.Reports.{balance}
 use Rattle.rule.proofs.Counts.{symbols-rewrite, counts-balance, count-gone}
 use Rattle.word.specs.Layout.{corpus, entryAt}
@@ -20,16 +20,6 @@ use Rattle.merge.specs.Merging.{changeAt, MergedWord, MergedAll}
 use Rattle.merge.specs.declared.Merged.{Merged}
 
 -- A WORD WITHOUT THE PAIR STAYS: who goes only by the words that hold it rewrites all
-out-src : (a b x : ℕ) (ps : List Span) → hits ps ≡ 0 → out x ps ≡ src a b ps
-unfolding hits out src
-out-src a b x [] h = refl
-out-src a b x (one s ∷ ps) h = ap (λ (l : List ℕ). s ∷ l) (out-src a b x ps h)
-out-src a b x (hit ∷ ps) h = absurd (omega arith)
-
-pub rewrite-none : (a b x : ℕ) (w : List ℕ) → countIn a b w ≡ 0 → rewrite a b x w ≡ w
-unfolding rewrite rewrites
-rewrite-none a b x w h = out-src a b x (cut a b w) (omega (arith, rewrites-le a b w)) ∙ src-cut a b w
-
 pub change-none : (a b x k : ℕ) (es : List Entry) → countIn a b (entryAt es k .symbols) ≡ 0 → changeAt (rewrite a b x) k es ≡ es
 unfolding changeAt entryAt
 change-none a b x k [] h = refl
@@ -58,25 +48,25 @@ module _ (a b x : ℕ) (w : WordSet) (k : ℕ) (cs ds : List ℕ) (r : Merged) (
   pub merge-balance : (p q : ℕ) → (p ≡ a → q ≡ b → ⊥) → k < w .count
       → count p q (corpus cs (w .starts) (w .count))
       + entryAt (corpus cs (w .starts) (w .count)) k .frequency * raised p q (reports a b x (entryAt (corpus cs (w .starts) (w .count)) k .symbols))
-      ≡ count p q (corpus ds (w .starts) (w .count))
+      ≡ count p q (corpus ds (r .words .starts) (r .words .count))
       + entryAt (corpus cs (w .starts) (w .count)) k .frequency * lowered p q (reports a b x (entryAt (corpus cs (w .starts) (w .count)) k .symbols))
   merge-balance p q n h =
       rw (m .view) (change-balance p q a b x n k (corpus cs (w .starts) (w .count)) (omega (arith, corpus-length cs (w .starts) (w .count))))
 
-  pub merge-weight : symbolsIn (corpus ds (w .starts) (w .count)) ≤ symbolsIn (corpus cs (w .starts) (w .count))
+  pub merge-weight : symbolsIn (corpus ds (r .words .starts) (r .words .count)) ≤ symbolsIn (corpus cs (w .starts) (w .count))
   merge-weight = rw (m .view) (change-weight a b x k (corpus cs (w .starts) (w .count)))
 
 -- ALL WORDS: merging each word of the set is the rule's rewriting of the corpus, so the reports balance there
 module _ (a b x : ℕ) (w : WordSet) (cs ds : List ℕ) (r : WordSet) (m : MergedAll a b x w cs ds r) where
   pub merge-all-balance : (p q : ℕ) → (p ≡ a → q ≡ b → ⊥)
       → count p q (corpus cs (w .starts) (w .count)) + gains p q a b x (corpus cs (w .starts) (w .count))
-      ≡ count p q (corpus ds (w .starts) (w .count)) + losses p q a b x (corpus cs (w .starts) (w .count))
+      ≡ count p q (corpus ds (r .starts) (r .count)) + losses p q a b x (corpus cs (w .starts) (w .count))
   merge-all-balance p q n = rw (m .view) (counts-balance p q a b x n (corpus cs (w .starts) (w .count)))
 
   -- the pair is gone
-  pub merge-all-gone : x ≢ a → x ≢ b → count a b (corpus ds (w .starts) (w .count)) ≡ 0
+  pub merge-all-gone : x ≢ a → x ≢ b → count a b (corpus ds (r .starts) (r .count)) ≡ 0
   merge-all-gone ha hb = rw (m .view) (count-gone a b x ha hb (corpus cs (w .starts) (w .count)))
 
   -- each rewrite costs the corpus a symbol, weighted
-  pub merge-all-weight : symbolsIn (corpus ds (w .starts) (w .count)) + rewritesIn a b (corpus cs (w .starts) (w .count)) ≡ symbolsIn (corpus cs (w .starts) (w .count))
+  pub merge-all-weight : symbolsIn (corpus ds (r .starts) (r .count)) + rewritesIn a b (corpus cs (w .starts) (w .count)) ≡ symbolsIn (corpus cs (w .starts) (w .count))
   merge-all-weight = rw (m .view) (symbols-rewrite a b x (corpus cs (w .starts) (w .count)))

@@ -9,14 +9,15 @@ use Rattle.runs.specs.Parts.{nth, part, Kept}
 use Rattle.runs.proofs.Parts.{same-or-not, below-or-not, length-part}
 use Rattle.runs.proofs.Frames.{kept-none, kept-then, kept-wide}
 use Rattle.rule.specs.Rewriting.{rewrite, rewrites}
+use Rattle.rule.specs.Training.{rewriteAll}
 use Rattle.rule.proofs.Rewriting.{length-rewrite}
-use Rattle.word.specs.Layout.{symbolIn, symbolsAt, endAt, line, lines, corpus, entryAt, inUse, Words}
+use Rattle.word.specs.Layout.{symbolIn, symbolsAt, endAt, line, lines, corpus, entryAt, inUse, Words, Numbers}
 use Rattle.word.specs.Pushing.{Placed}
 use Rattle.word.specs.declared.WordSet.{WordSet}
 use Rattle.word.proofs.Views.{symbols-length, corpus-length, line-same}
 use Rattle.word.proofs.Sets.{word-symbols, inLine-shorter}
 use Rattle.merge.specs.Cells.{rewriteCells, RewrittenWord}
-use Rattle.merge.specs.Merging.{changeAt, rewriteFirst, withLive, MergedWord, MergedAll, Merging}
+use Rattle.merge.specs.Merging.{changeAt, rewriteFirst, MergedWord, MergedAll, Merging}
 use Rattle.merge.specs.declared.Merged.{Merged}
 use Rattle.merge.proofs.Runs.{rewrite-cells}
 use Rattle.merge.proofs.Changes.{change-symbols, lines-changed, inUse-rewrite, first-none, first-more, first-all}
@@ -83,10 +84,13 @@ module _ (a b x : ℕ) (w : WordSet) (k s n m : ℕ) (cs ds : List ℕ) (σ : Wo
       (λ d. rw (d, ← p .place) (omega (arith, r .length-is, r .fewer)))
       (λ d. let q = r .kept .same (nth cs (w .starts + i) + 1) (apart i (nth cs (w .starts + i) + 1) l d (omega arith) (omega arith)) in omega arith)
 
-  pub word-merged : MergedWord a b x w k cs ds (record { words = withLive w (w .live - (n - m)); rewrites = n - m })
+  pub word-merged : MergedWord a b x w k cs ds (record {
+    words = record { starts = w .starts; count = w .count; low = w .low; top = w .top; live = w .live - (n - m) };
+    rewrites = n - m;
+  })
   word-merged = record {
     rewritten = rewrites-are;
-    numbers = refl;
+    numbers = record { starts-is = refl; count-is = refl; low-is = refl; top-is = refl; live-is = refl };
     set = record {
       small = rw (r .kept .long) (σ .small);
       room = rw (r .kept .long) (σ .room);
@@ -110,14 +114,14 @@ merged-within a b x w k cs ds r σ h m = kept-wide (w .low) (w .top) (omega (ari
     place = m .kept .same (w .starts + k) (inl (omega (arith, σ .apart, low)))
 
     high : endAt ds (nth cs (w .starts + k)) ≤ w .top
-    high = rw (m .numbers, place) at (m .set .inLine .last k (rw (m .numbers) h))
+    high =
+        rw (m .numbers .starts-is, place, m .numbers .top-is) at (m .set .inLine .last k (omega (arith, m .numbers .count-is)))
 
 -- ALL WORDS
 
 pub merging-start : (a b x : ℕ) (w : WordSet) (cs : List ℕ) → Words w cs → Merging a b x w 0 cs cs w
 merging-start a b x w cs σ = record {
-  numbers = refl;
-  many = refl;
+  numbers = record { starts-is = refl; count-is = refl; low-is = refl; top-is = refl; live-is = refl };
   set = σ;
   view = sym (first-none a b x (corpus cs (w .starts) (w .count)));
   kept = kept-none (w .low) (w .top) cs;
@@ -125,35 +129,42 @@ merging-start a b x w cs σ = record {
 
 module _ (a b x : ℕ) (w : WordSet) (k : ℕ) (cs ds : List ℕ) (v : WordSet) (σ : Merging a b x w k cs ds v) where
   pub merging-turn : k < w .count → (es : List ℕ) (r : Merged) → MergedWord a b x v k ds es r → Merging a b x w (k + 1) cs es (r .words)
-  merging-turn h es r m = record { numbers = numbers; many = many; set = m .set; view = view; kept = kept }
+  merging-turn h es r m = record { numbers = numbers; set = m .set; view = view; kept = kept }
     where
-      starts-same : v .starts ≡ w .starts
-      starts-same = ap (λ (u : WordSet). u .starts) (σ .numbers)
+      numbers : Numbers (r .words) (w .starts) (w .count) (w .low) (w .top) (r .words .live)
+      numbers = record {
+        starts-is = m .numbers .starts-is ∙ σ .numbers .starts-is;
+        count-is = m .numbers .count-is ∙ σ .numbers .count-is;
+        low-is = m .numbers .low-is ∙ σ .numbers .low-is;
+        top-is = m .numbers .top-is ∙ σ .numbers .top-is;
+        live-is = refl;
+      }
 
-      low-same : v .low ≡ w .low
-      low-same = ap (λ (u : WordSet). u .low) (σ .numbers)
-
-      top-same : v .top ≡ w .top
-      top-same = ap (λ (u : WordSet). u .top) (σ .numbers)
-
-      numbers : r .words ≡ withLive w (r .words .live)
-      numbers = rw (m .numbers, starts-same, σ .many, low-same, top-same)
-
-      many : r .words .count ≡ w .count
-      many = ap (λ (u : WordSet). u .count) numbers
-
-      view : corpus es (w .starts) (w .count) ≡ rewriteFirst a b x (k + 1) (corpus cs (w .starts) (w .count))
+      view : corpus es (r .words .starts) (r .words .count) ≡ rewriteFirst a b x (k + 1) (corpus cs (w .starts) (w .count))
       view =
-          rw (starts-same, σ .many, σ .view) at (m .view)
+          m .view
+          ∙ ap (changeAt (rewrite a b x) k) (σ .view)
           ∙ first-more a b x k (corpus cs (w .starts) (w .count)) (omega (arith, corpus-length cs (w .starts) (w .count)))
 
+      within : Kept (v .low) (v .top) ds es
+      within = merged-within a b x v k ds es r (σ .set) (omega (arith, σ .numbers .count-is)) m
+
       kept : Kept (w .low) (w .top) cs es
-      kept = kept-then (σ .kept) (rw (low-same, top-same) at (merged-within a b x v k ds es r (σ .set) (omega (arith, σ .many)) m))
+      kept = kept-then (σ .kept) (kept-wide (w .low) (w .top) (omega (arith, σ .numbers .low-is)) (omega (arith, σ .numbers .top-is)) within)
 
   pub merging-end : w .count ≤ k → MergedAll a b x w cs ds v
   merging-end h = record {
-    numbers = σ .numbers;
+    numbers = record {
+      starts-is = σ .numbers .starts-is;
+      count-is = σ .numbers .count-is;
+      low-is = σ .numbers .low-is;
+      top-is = σ .numbers .top-is;
+      live-is = σ .set .used ∙ ap inUse view;
+    };
     set = σ .set;
-    view = σ .view ∙ first-all a b x k (corpus cs (w .starts) (w .count)) (omega (arith, corpus-length cs (w .starts) (w .count)));
+    view = view;
     kept = σ .kept;
   }
+    where
+      view : corpus ds (v .starts) (v .count) ≡ rewriteAll a b x (corpus cs (w .starts) (w .count))
+      view = σ .view ∙ first-all a b x k (corpus cs (w .starts) (w .count)) (omega (arith, corpus-length cs (w .starts) (w .count)))

@@ -92,7 +92,12 @@ pub looked : (a b x : ℕ) (has : Bool) (previous at left s t u : ℕ) (cs : Lis
     → (st : Step) → st ≡ stepBy a b x has previous left s t u → Looked a b x has previous at left cs st
 unfolding symbolsAt stepOf
 looked a b x has previous at left s t u cs l h es et eu st e =
-    record { step = front; within = omega (arith, front .within, long); cells-is = rw (is, ← first) (step-cells a b x has previous (part at left cs) (omega (arith, length-part at left cs l))) }
+    record {
+      is = is;
+      step = front;
+      within = omega (arith, front .within, long);
+      cells-is = rw (is, ← first) (step-cells a b x has previous (part at left cs) (omega (arith, length-part at left cs l)));
+    }
   where
     long : length (symbolsAt at left cs) ≡ left
     long = symbols-length at left cs l

@@ -7,7 +7,7 @@ use lib.Dec.{eqb}
 use lib.ListN.{length, drop}
 use Rattle.runs.specs.Parts.{nth, part, Kept}
 use Rattle.rule.specs.Rewriting.{Span, one, hit, cut}
-use Rattle.step.specs.Step.{StepAt}
+use Rattle.step.specs.Step.{stepOf, StepAt}
 use Rattle.step.specs.declared.Step.{Step}
 use Rattle.word.specs.Layout.{symbolIn, symbolsAt}
 
@@ -19,6 +19,7 @@ cellsOf x (one s ∷ ps) (c ∷ l) = c ∷ cellsOf x ps l
 cellsOf x (hit ∷ ps) (c ∷ []) = []
 cellsOf x (hit ∷ ps) (c ∷ d ∷ l) = x ∷ cellsOf x ps l
 
+-- "Rewriting (a,b) to X goes left to right without overlap", in cells
 unfoldable pub rewriteCells : ℕ → ℕ → ℕ → List ℕ → List ℕ
 rewriteCells a b x l = cellsOf x (cut a b (map symbolIn l)) l
 
@@ -28,6 +29,7 @@ leaves st c = cond (eqb (st .took) 1) c (st .symbol)
 
 -- a step at the front of the `left` symbols from the cell `at` on
 pub record Looked (a b x : ℕ) (has : Bool) (previous at left : ℕ) (cs : List ℕ) (st : Step) : Type 0 where
+  pub is : st ≡ stepOf a b x has previous (symbolsAt at left cs)
   pub step : StepAt a b x has previous (symbolsAt at left cs) st
   pub within : st .took ≤ left
   pub cells-is : rewriteCells a b x (part at left cs) ≡ leaves st (nth cs at) ∷ rewriteCells a b x (drop (st .took) (part at left cs))

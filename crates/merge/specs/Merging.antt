@@ -6,7 +6,7 @@ use Rattle.runs.specs.Parts.{nth, Kept}
 use Rattle.rule.specs.Rewriting.{rewrite, rewrites}
 use Rattle.rule.specs.Seeding.{Entry}
 use Rattle.rule.specs.Training.{rewriteAll}
-use Rattle.word.specs.Layout.{endAt, lines, corpus, entryAt, Words}
+use Rattle.word.specs.Layout.{endAt, lines, corpus, entryAt, inUse, Words, Numbers}
 use Rattle.word.specs.declared.WordSet.{WordSet}
 use Rattle.merge.specs.Cells.{rewriteCells}
 use Rattle.merge.specs.declared.Merged.{Merged}
@@ -23,30 +23,25 @@ rewriteFirst a b x zero es = es
 rewriteFirst a b x (suc k) [] = []
 rewriteFirst a b x (suc k) (e ∷ es) = record { frequency = e .frequency; symbols = rewrite a b x (e .symbols) } ∷ rewriteFirst a b x k es
 
--- the set with another number of symbols in use
-abbrev pub withLive : WordSet → ℕ → WordSet
-withLive w n = record { starts = w .starts; count = w .count; low = w .low; top = w .top; live = n }
-
 -- word k is rewritten in place: its length and its symbols change, and no other cell
 pub record MergedWord (a b x : ℕ) (w : WordSet) (k : ℕ) (cs ds : List ℕ) (r : Merged) : Type 0 where
   pub rewritten : r .rewrites ≡ rewrites a b (entryAt (corpus cs (w .starts) (w .count)) k .symbols)
-  pub numbers : r .words ≡ withLive w (w .live - r .rewrites)
+  pub numbers : Numbers (r .words) (w .starts) (w .count) (w .low) (w .top) (w .live - r .rewrites)
   pub set : Words (r .words) ds
-  pub view : corpus ds (w .starts) (w .count) ≡ changeAt (rewrite a b x) k (corpus cs (w .starts) (w .count))
-  pub cells-are : lines ds (w .starts) (w .count) ≡ changeAt (rewriteCells a b x) k (lines cs (w .starts) (w .count))
+  pub view : corpus ds (r .words .starts) (r .words .count) ≡ changeAt (rewrite a b x) k (corpus cs (w .starts) (w .count))
+  pub cells-are : lines ds (r .words .starts) (r .words .count) ≡ changeAt (rewriteCells a b x) k (lines cs (w .starts) (w .count))
   pub kept : Kept (nth cs (w .starts + k) + 1) (endAt ds (nth cs (w .starts + k))) cs ds
 
 -- every word is rewritten
 pub record MergedAll (a b x : ℕ) (w : WordSet) (cs ds : List ℕ) (r : WordSet) : Type 0 where
-  pub numbers : r ≡ withLive w (r .live)
+  pub numbers : Numbers r (w .starts) (w .count) (w .low) (w .top) (inUse (rewriteAll a b x (corpus cs (w .starts) (w .count))))
   pub set : Words r ds
-  pub view : corpus ds (w .starts) (w .count) ≡ rewriteAll a b x (corpus cs (w .starts) (w .count))
+  pub view : corpus ds (r .starts) (r .count) ≡ rewriteAll a b x (corpus cs (w .starts) (w .count))
   pub kept : Kept (w .low) (w .top) cs ds
 
 -- while they are: the first k words are rewritten
 pub record Merging (a b x : ℕ) (w : WordSet) (k : ℕ) (cs ds : List ℕ) (v : WordSet) : Type 0 where
-  pub numbers : v ≡ withLive w (v .live)
-  pub many : v .count ≡ w .count
+  pub numbers : Numbers v (w .starts) (w .count) (w .low) (w .top) (v .live)
   pub set : Words v ds
-  pub view : corpus ds (w .starts) (w .count) ≡ rewriteFirst a b x k (corpus cs (w .starts) (w .count))
+  pub view : corpus ds (v .starts) (v .count) ≡ rewriteFirst a b x k (corpus cs (w .starts) (w .count))
   pub kept : Kept (w .low) (w .top) cs ds

@@ -1,11 +1,10 @@
--- The decorated units of a word, unit by unit. Assumes nothing.
-use mathlib.Core.Path.{_≡_, refl, ap, _∙_}
-use mathlib.Core.Bool.{Bool, true, false, cond, _&&_, and-true, and-false}
+-- The decorated units of a word, unit by unit from the front (`rule`'s `decorate-at` has them by place). Assumes nothing.
+use mathlib.Core.Path.{_≡_, refl, ap}
+use mathlib.Core.Bool.{Bool, true, false, cond}
 use mathlib.Core.List.{List, [], _∷_, _++_, map, append-assoc, append-nil}
-use Prim.Native.Nat.{ℕ, zero, suc, _<_}
-use native.Mathlib.Nat.{not-suc-le-zero, le-of-suc-le-suc}
-use lib.Dec.{eqb, eqb·zero-suc, eqb·suc-zero, eqb·suc-suc}
-use lib.ListN.{length, getD}
+use Prim.Native.Nat.{ℕ}
+use lib.Dec.{eqb, eqb·zero-suc}
+use lib.ListN.{length}
 use Rattle.rule.specs.Spelling.{prefixed, suffixed, decorate}
 use Rattle.spelling.specs.Units.{dressed, dressedFrom}
 
@@ -48,22 +47,3 @@ module _ (p s : List ℕ) where
   decorate-dressed [] = refl
   decorate-dressed (u ∷ []) = refl
   decorate-dressed (u ∷ v ∷ us) = rw (append-nil u) (ap (λ (l : List (List ℕ)). u ∷ l) (suffixed-dressed (v ∷ us)))
-
-  -- AT A PLACE
-  dressed-length : (isFirst : Bool) (us : List (List ℕ)) → length (dressedFrom p s isFirst us) ≡ length us
-  dressed-length isFirst [] = ap length (dressed-none isFirst)
-  dressed-length isFirst (u ∷ us) = ap length (dressed-next isFirst u us) ∙ ap suc (dressed-length false us)
-
-  dressed-at : (isFirst : Bool) (us : List (List ℕ)) (k : ℕ) → k < length us
-      → getD (dressedFrom p s isFirst us) k [] ≡ dressed p s (isFirst && eqb k 0) (eqb (suc k) (length us)) (getD us k [])
-  dressed-at isFirst [] k h = absurd (not-suc-le-zero h)
-  dressed-at isFirst (u ∷ us) zero h = rw (dressed-next, and-true, eqb·suc-suc)
-  dressed-at isFirst (u ∷ us) (suc k) h = rw (dressed-next, eqb·suc-zero, and-false, eqb·suc-suc) (dressed-at false us k (le-of-suc-le-suc h))
-
-  pub decorate-length : (us : List (List ℕ)) → length (decorate p s us) ≡ length us
-  decorate-length us = ap length (decorate-dressed us) ∙ dressed-length true us
-
-  -- "prefix before each unit but a word's first; suffix after the last"
-  pub decorate-at : (us : List (List ℕ)) (k : ℕ) → k < length us
-      → getD (decorate p s us) k [] ≡ dressed p s (eqb k 0) (eqb (suc k) (length us)) (getD us k [])
-  decorate-at us k h = rw (decorate-dressed us) (dressed-at true us k h)

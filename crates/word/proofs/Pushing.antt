@@ -3,7 +3,7 @@ use mathlib.Core.Path.{_≡_, refl, sym, ap, _∙_}
 use mathlib.Core.Bool.{Bool, true, false}
 use mathlib.Core.List.{List, [], _∷_, _++_, append-nil}
 use mathlib.Core.Logic.{inl, inr}
-use Prim.Native.Nat.{ℕ, _+_, _*_, _^_, _≤_, _<_}
+use Prim.Native.Nat.{ℕ, _+_, _^_, _≤_, _<_}
 use native.Mathlib.Omega.{arith}
 use lib.Dec.{ltb}
 use lib.ListN.{length}
@@ -12,11 +12,11 @@ use Rattle.runs.specs.Parts.{nth, put, part, Kept}
 use Rattle.runs.proofs.Parts.{below-or-not, length-put, nth-put, nth-put-other, part-ext}
 use Rattle.runs.proofs.Frames.{kept-put, kept-part}
 use Rattle.rule.specs.Seeding.{keep}
-use Rattle.word.specs.Layout.{symbolIn, symbolsAt, endAt, line, bySymbols, corpus, inUse, InLine, Words}
-use Rattle.word.specs.Pushing.{longer, pushed, pushedCells, Opened, Added, Pushed}
+use Rattle.word.specs.Layout.{symbolIn, symbolsAt, endAt, line, bySymbols, corpus, inUse, SameIn, InLine, Words}
+use Rattle.word.specs.Pushing.{longer, pushed, pushedCells, Takes, Opened, Added, Pushed}
 use Rattle.word.specs.declared.WordSet.{WordSet}
 use Rattle.word.proofs.Views.{symbol-alone, symbols-length, symbols-more, symbols-same, corpus-more, inUse-append}
-use Rattle.word.proofs.Sets.{SameIn, words-kept, corpus-kept, corpus-as-it-was, inLine-same}
+use Rattle.word.proofs.Sets.{words-kept, corpus-kept, corpus-as-it-was, inLine-same}
 
 -- A WORD IS OPEN
 
@@ -59,6 +59,18 @@ added w n s cs ds σ h l e =
         ∙ ap (λ (v : ℕ). symbolsAt at n ds ++ (v ∷ [])) value
         ∙ ap (λ (l : List ℕ). l ++ (s ∷ [])) (symbols-same at n cs ds (kept-part at n kept (omega arith) (inl (omega arith))))
 
+-- WHAT A PUSH TAKES
+takes : (w r : WordSet) (n : ℕ) → r ≡ pushed w n → Takes w n r
+unfolding pushed
+takes w r n e = go (ltb n 2) refl
+  where
+    go : (t : Bool) → ltb n 2 ≡ t → Takes w n r
+    go true h = let z : r ≡ w = rw h at e in rw z (record { starts-is = refl; low-is = refl; top-most = omega arith; count-most = omega arith })
+    go false h =
+        let z : r ≡ longer w n = rw h at e in
+        let l = ltb-false n 2 h in
+        rw z (record { starts-is = refl; low-is = refl; top-most = omega arith; count-most = omega arith })
+
 -- A WORD OF FEWER THAN TWO SYMBOLS IS DROPPED, any other is kept
 
 keep-few : (f : ℕ) (l : List ℕ) → length l < 2 → keep f l [] ≡ []
@@ -78,6 +90,7 @@ unfolding pushed pushedCells
 dropped w n cs σ h r = record {
   is = rw (lt-ltb n 2 h);
   numbers = rw (lt-ltb n 2 h);
+  takes = takes w w n (rw (lt-ltb n 2 h));
   set = σ;
   view =
       rw (keep-few (nth cs (w .top)) (symbolsAt (w .top + 2) n cs) (omega (arith, symbols-length (w .top + 2) n cs r)))
@@ -157,6 +170,7 @@ module _ (w : WordSet) (n : ℕ) (cs ds es : List ℕ) (σ : Words w cs) (more :
   pushed-word = record {
     is = rw (le-ltb n 2 more, ← d) e;
     numbers = rw (le-ltb n 2 more);
+    takes = takes w (longer w n) n (rw (le-ltb n 2 more));
     set = record { small = rw long (σ .small); room = rw long r; apart = omega arith; inLine = inLine; used = used };
     view = view;
     long = long;
@@ -167,12 +181,3 @@ module _ (w : WordSet) (n : ℕ) (cs ds es : List ℕ) (σ : Words w cs) (more :
       used =
           rw (view, keep-word (nth cs (w .top)) (symbolsAt (w .top + 2) n cs) (omega (arith, symbols-length (w .top + 2) n cs r)), inUse-append)
           (omega (arith, σ .used, symbols-length (w .top + 2) n cs r))
-
--- WHAT A PUSH TAKES: two cells a symbol at most, and a place for every two
-pub push-room : (w r : WordSet) (n : ℕ) → r ≡ pushed w n → (r .starts ≡ w .starts) × (r .low ≡ w .low) × (r .top ≤ w .top + 2 * n) × (2 * r .count ≤ 2 * w .count + n)
-unfolding pushed
-push-room w r n e = go (ltb n 2) refl
-  where
-    go : (t : Bool) → ltb n 2 ≡ t → (r .starts ≡ w .starts) × (r .low ≡ w .low) × (r .top ≤ w .top + 2 * n) × (2 * r .count ≤ 2 * w .count + n)
-    go true h = let z : r ≡ w = rw h at e in rw z (refl, refl, omega arith, omega arith)
-    go false h = let z : r ≡ longer w n = rw h at e in let l = ltb-false n 2 h in rw z (refl, refl, omega arith, omega arith)

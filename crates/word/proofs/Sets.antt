@@ -1,6 +1,6 @@
 -- The laws of a word set: where its words lie, that it is as it was where its cells are, and how much room it takes. Assumes nothing.
 use mathlib.Core.Path.{_≡_, sym, ap, _∙_}
-use mathlib.Core.List.{List, map}
+use mathlib.Core.List.{List, [], map}
 use mathlib.Core.Logic.{_⊎_, inl, inr}
 use Prim.Native.Nat.{ℕ, zero, suc, _+_, _*_, _^_, _≤_, _<_}
 use native.Mathlib.Omega.{arith}
@@ -9,8 +9,8 @@ use Rattle.runs.specs.Parts.{nth, part, Kept}
 use Rattle.runs.proofs.Parts.{length-part}
 use Rattle.runs.proofs.Frames.{kept-part}
 use Rattle.rule.specs.Seeding.{Entry}
-use Rattle.word.specs.Layout.{symbolIn, symbolsAt, endAt, lines, corpus, entryAt, inUse, InLine, Words}
-use Rattle.word.specs.Pushing.{none, Placed, Found}
+use Rattle.word.specs.Layout.{symbolIn, symbolsAt, endAt, lines, corpus, entryAt, inUse, SameIn, InLine, Words, Numbers}
+use Rattle.word.specs.Pushing.{Placed, Found}
 use Rattle.word.specs.declared.WordSet.{WordSet}
 use Rattle.word.proofs.Views.{symbols-length, symbols-same, corpus-none, corpus-cons, corpus-entry, corpus-lines, lines-same, line-same}
 
@@ -53,9 +53,6 @@ module _ (w : WordSet) (cs : List ℕ) (σ : Words w cs) (k s : ℕ) (h : k < w 
       room = omega (arith, p .high, σ .room)
 
 -- CELLS THAT ARE AS THEY WERE
-
-abbrev pub SameIn : ℕ → ℕ → List ℕ → List ℕ → Type 0
-SameIn lo hi cs ds = (j : ℕ) → lo ≤ j → j < hi → nth ds j ≡ nth cs j
 
 module _ (cs ds : List ℕ) (starts n lo hi : ℕ) (l : InLine cs starts n lo hi) where
   -- words with the same places, and no word longer, lie in line
@@ -133,15 +130,24 @@ symbols-kept {lo} {hi} {cs} {ds} at n k h o = symbols-same at n cs ds (kept-part
 
 -- NO WORDS
 
-pub words-none : (starts low : ℕ) (cs : List ℕ) → starts ≤ low → low ≤ length cs → length cs < 2 ^ 61 → Words (none starts low) cs
-unfolding inUse
-words-none starts low cs a r s = record {
-  small = s;
-  room = r;
-  apart = omega arith;
-  inLine = record { span = omega arith; first = λ k h. absurd (omega arith); last = λ k h. absurd (omega arith); order = λ i j h k. absurd (omega arith) };
-  used = rw (corpus-none cs starts);
-}
+module _ (r : WordSet) (starts low : ℕ) (cs : List ℕ) (n : Numbers r starts 0 low low 0) where
+  pub corpus-empty : corpus cs (r .starts) (r .count) ≡ []
+  corpus-empty = rw (n .count-is) (corpus-none cs (r .starts))
+
+  pub words-empty : starts ≤ low → low ≤ length cs → length cs < 2 ^ 61 → Words r cs
+  unfolding inUse
+  words-empty a h s = record {
+    small = s;
+    room = omega (arith, n .top-is);
+    apart = omega (arith, n .starts-is, n .count-is, n .low-is);
+    inLine = record {
+      span = omega (arith, n .low-is, n .top-is);
+      first = λ k l. absurd (omega (arith, n .count-is));
+      last = λ k l. absurd (omega (arith, n .count-is));
+      order = λ i j k l. absurd (omega (arith, n .count-is));
+    };
+    used = rw corpus-empty (n .live-is);
+  }
 
 -- ROOM: the symbols in use, and two cells a word, lie between the bounds
 pub line-room : (cs : List ℕ) (starts n lo hi : ℕ) → InLine cs starts n lo hi → hi ≤ length cs → lo + inUse (corpus cs starts n) + 2 * n ≤ hi

@@ -32,7 +32,7 @@ unfoldable pub lines : List ℕ → ℕ → ℕ → List Entry
 lines cs starts zero = []
 lines cs starts (suc n) = line cs (nth cs starts) ∷ lines cs (starts + 1) n
 
--- THE VIEW: the words by their symbols, "a kept word: its frequency and its symbols"
+-- THE VIEW: the words by their symbols, as the rule has its kept words
 abbrev pub bySymbols : Entry → Entry
 bySymbols e = record { frequency = e .frequency; symbols = map symbolIn (e .symbols) }
 
@@ -48,6 +48,10 @@ unfoldable pub inUse : List Entry → ℕ
 inUse [] = 0
 inUse (e ∷ es) = length (e .symbols) + inUse es
 
+-- the cells between lo and hi are as they were
+abbrev pub SameIn : ℕ → ℕ → List ℕ → List ℕ → Type 0
+SameIn lo hi cs ds = (j : ℕ) → lo ≤ j → j < hi → nth ds j ≡ nth cs j
+
 -- n words in order between lo and hi, none of which overlaps another
 pub record InLine (cs : List ℕ) (starts n lo hi : ℕ) : Type 0 where
   pub span : lo ≤ hi
@@ -62,6 +66,14 @@ pub record Words (w : WordSet) (cs : List ℕ) : Type 0 where
   pub apart : w .starts + w .count ≤ w .low
   pub inLine : InLine cs (w .starts) (w .count) (w .low) (w .top)
   pub used : w .live ≡ inUse (corpus cs (w .starts) (w .count))
+
+-- a set's numbers, one by one
+pub record Numbers (r : WordSet) (starts count low top live : ℕ) : Type 0 where
+  pub starts-is : r .starts ≡ starts
+  pub count-is : r .count ≡ count
+  pub low-is : r .low ≡ low
+  pub top-is : r .top ≡ top
+  pub live-is : r .live ≡ live
 
 -- "Whether merging has left more dead space than live symbols": the span of the symbols, without each word's two cells before them
 unfoldable pub sparse : WordSet → Bool

@@ -2,7 +2,7 @@
 use mathlib.Core.Path.{_≡_}
 use mathlib.Core.Bool.{cond}
 use mathlib.Core.List.{List, [], _∷_, _++_}
-use Prim.Native.Nat.{ℕ, _+_, _≤_}
+use Prim.Native.Nat.{ℕ, _+_, _*_, _≤_}
 use lib.Dec.{ltb}
 use lib.ListN.{length}
 use Rattle.runs.specs.Parts.{nth, put, Kept}
@@ -11,16 +11,20 @@ use Rattle.word.specs.Layout.{symbolsAt, endAt, corpus, entryAt, Words}
 use Rattle.word.specs.declared.WordSet.{WordSet}
 use Rattle.word.specs.declared.Span.{Span}
 
--- a set without words, and one with a word of n symbols more
-abbrev pub none : ℕ → ℕ → WordSet
-none starts low = record { starts = starts; count = 0; low = low; top = low; live = 0 }
-
+-- a set with a word of n symbols more
 abbrev pub longer : WordSet → ℕ → WordSet
 longer w n = record { starts = w .starts; count = w .count + 1; low = w .low; top = w .top + 2 + n; live = w .live + n }
 
--- a word of fewer than two symbols is dropped
+-- a one-unit word "takes no part in merging. An empty word adds nothing"
 unfoldable pub pushed : WordSet → ℕ → WordSet
 pushed w n = cond (ltb n 2) w (longer w n)
+
+-- what that takes: two cells a symbol at most, and a place for every two
+pub record Takes (w : WordSet) (n : ℕ) (r : WordSet) : Type 0 where
+  pub starts-is : r .starts ≡ w .starts
+  pub low-is : r .low ≡ w .low
+  pub top-most : r .top ≤ w .top + 2 * n
+  pub count-most : 2 * r .count ≤ 2 * w .count + n
 
 -- the cells then: its length is put behind its frequency, and its place behind the others
 unfoldable pub pushedCells : WordSet → ℕ → List ℕ → List ℕ
@@ -49,6 +53,7 @@ pub record Added (w : WordSet) (n s : ℕ) (cs ds : List ℕ) : Type 0 where
 pub record Pushed (w : WordSet) (n : ℕ) (cs ds : List ℕ) (r : WordSet) : Type 0 where
   pub is : ds ≡ pushedCells w n cs
   pub numbers : r ≡ pushed w n
+  pub takes : Takes w n r
   pub set : Words r ds
   pub view : corpus ds (r .starts) (r .count) ≡ corpus cs (w .starts) (w .count) ++ keep (nth cs (w .top)) (symbolsAt (w .top + 2) n cs) []
   pub long : length ds ≡ length cs

@@ -4,8 +4,8 @@ ghost use Prim.Native.Nat.{_+_, _*_, _<_, _≤_, _^_};
 ghost use lib.ListN.{length};
 ghost use Rattle.runs.specs.Parts.{nth};
 ghost use Rattle.numbers.specs.Cells.{cells};
-ghost use Rattle.word.specs.Layout.{symbolIn, corpus, entryAt, Words, sparse};
-ghost use Rattle.word.specs.Pushing.{none, Opened, Added, Pushed, Placed, Found};
+ghost use Rattle.word.specs.Layout.{symbolIn, corpus, entryAt, Words, Numbers, sparse};
+ghost use Rattle.word.specs.Pushing.{Opened, Added, Pushed, Placed, Found};
 
 // `count` words whose places stand from the cell `starts` on, and who lie from the cell `low` up to
 // `top`. `live` counts the symbols still in use, as against the span, which has the gaps that
@@ -34,7 +34,7 @@ pub fn symbol(room: &[u8], at: usize) -> u32
 
 // A set without words.
 pub fn empty(starts: usize, low: usize) -> WordSet
-    ensures { λ r. ⌜ r ≡ none starts low ⌝ }
+    ensures { λ r. ⌜ Numbers r starts 0 low low 0 ⌝ }
 {
     WordSet {
         starts: starts,
