@@ -1,7 +1,8 @@
 // The C door: what other languages call, and nothing else. `include/rindovesh.h` declares it.
 //
-// A slice is two C parameters, a pointer and a length in bytes. Each function has no `requires`: for
-// every input its contract says the number returned and the bytes of every lent run at exit.
+// A slice is two C parameters, a pointer and a length in bytes. An exported function has no
+// `requires`: for every input its contract says the number returned and the bytes of every lent run
+// at exit.
 ghost use mathlib.Core.Path.{_≡_};
 ghost use mathlib.Core.List.{[], _∷_};
 ghost use Prim.Native.Nat.{_≤_};

@@ -15,7 +15,7 @@ pub record Writes (new old now : List ℕ) (k : ℕ) (rest : List ℕ) : Type 0 
   pub inside : k ≤ length new
   pub fits : length new ≤ length old
 
--- "(left,right) -1 and (p,q) +1", or nothing: the reports on one side of a rewrite
+-- the reports on one side of a rewrite: (l,r) -1 and (p,q) +1, or none where no symbol stands there
 abbrev pub side : Bool → ℕ → ℕ → ℕ → ℕ → List Report
 side on l r p q = cond on (less l r ∷ more p q ∷ []) []
 
