@@ -16,7 +16,7 @@ use error::PieceError;
 const MOST_ENDS: usize = 16777216;
 
 // The i-th end.
-fn end_at(ends: &[u8], i: usize) -> usize
+pub fn end_at(ends: &[u8], i: usize) -> usize
     requires { ⌜ i < length (now ends) / 4 ⌝ }
     ensures { λ r. ⌜ r ≡ nth (numbers 4 (now (ends .entry))) i ⌝ }
 {
