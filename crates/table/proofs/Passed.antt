@@ -49,12 +49,12 @@ risen n from e es h = go (leb from e) refl h
     go true q k = (leb-true from e q, k)
     go false q k = let z : _≡_ {A = ℕ} 0 1 = cc in absurd (omega arith)
 
-units-bound : (sd : ℕ) (ws : List ℕ) (n from : ℕ) (es : List ℕ) → riseTo n from es ≡ true → total (map length (map (units sd) (parts ws from es))) + from ≤ n
+units-bound : (seeding : ℕ) (ws : List ℕ) (n from : ℕ) (es : List ℕ) → riseTo n from es ≡ true → total (map length (map (units seeding) (parts ws from es))) + from ≤ n
 unfolding parts total riseTo units
-units-bound sd ws n from [] h = omega (arith, eqb-true from n h)
-units-bound sd ws n from (e ∷ es) h =
+units-bound seeding ws n from [] h = omega (arith, eqb-true from n h)
+units-bound seeding ws n from (e ∷ es) h =
     let k = risen n from e es h in
-    omega (arith, k .0, units-bound sd ws n e es (k .1), seeded-few (chars sd) (part from (e - from) ws), part-short from (e - from) ws)
+    omega (arith, k .0, units-bound seeding ws n e es (k .1), seeded-few (chars seeding) (part from (e - from) ws), part-short from (e - from) ws)
 
 positive : (ns : List ℕ) → None (map (eqb 0) ns) → (i : ℕ) → i < length ns → 1 ≤ getD ns i 0
 positive [] h i l = absurd (omega arith)

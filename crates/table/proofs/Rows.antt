@@ -78,7 +78,7 @@ module _ (ws es fs al ae : List ℕ) (seeding : ℕ) where
 pub record Sound (ws es fs al ae : List ℕ) (seeding : ℕ) : Type 0 where
   pub setting : seeding ≤ 1
   pub whole : length fs % 8 ≡ 0
-  pub even : length es / 4 ≡ length fs / 8
+  pub counts : length es / 4 ≡ length fs / 8
   pub words-shaped : shaped ws es ≡ true
   pub symbols-shaped : shaped al ae ≡ true
 
@@ -89,7 +89,7 @@ sound ws es fs al ae seeding b e h =
     record {
       setting = ltb-false 1 seeding (n .0);
       whole = eqb-true (length fs % 8) 0 (not-false _ (n .1 .0));
-      even = eqb-true (length es / 4) (length fs / 8) (not-false _ (n .1 .1 .0));
+      counts = eqb-true (length es / 4) (length fs / 8) (not-false _ (n .1 .1 .0));
       words-shaped = not-false _ (n .1 .1 .1 .0);
       symbols-shaped = not-false _ (n .1 .1 .1 .1 .0);
     }

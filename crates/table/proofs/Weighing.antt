@@ -16,13 +16,13 @@ use Rattle.text.specs.Units.{byChars, Counted}
 use Rattle.text.proofs.Steps.{counted-units}
 use Rattle.vocab.specs.Places.{numbersFrom}
 use Rattle.vocab.proofs.Places.{numbers-start, numbers-step, numbers-end, parts-start, parts-step, parts-end}
-use Rattle.table.specs.Weighing.{unitCount, Cut, capped, Heavier, IsWeighed}
+use Rattle.table.specs.Weighing.{unitCount, UnitsIn, capped, Heavier, IsWeighed}
 
 -- THE UNITS OF A WORD, as they are counted
 
-pub cut-counted : (seeding : ℕ) (d : Seeding) (ws : List ℕ) (from to r : ℕ) → from ≤ to → to ≤ length ws
-    → byChars d ≡ chars seeding → Counted (byChars d) ws from to r → Cut seeding ws from to r
-cut-counted seeding d ws from to r h k e n = record { is = counted-units d seeding e ws from to r n; few = n .few; up = h; inside = k }
+pub units-counted : (seeding : ℕ) (d : Seeding) (ws : List ℕ) (from to r : ℕ) → from ≤ to → to ≤ length ws
+    → byChars d ≡ chars seeding → Counted (byChars d) ws from to r → UnitsIn seeding ws from to r
+units-counted seeding d ws from to r h k e n = record { is = counted-units d seeding e ws from to r n; few = n .few; up = h; inside = k }
 
 -- A WEIGHT UP TO 2^53
 
@@ -65,58 +65,58 @@ module _ (weight f u : ℕ) (h : weight ≤ 2 ^ 53) where
 -- A PASS OVER THE WORDS: the whole weight and all units are those so far and those from the i-th word on, which starts at `last`
 
 unfoldable pub weightFrom : ℕ → List ℕ → List ℕ → List ℕ → ℕ → ℕ → ℕ
-weightFrom sd ws es fs last i = weighed (numbersFrom 8 fs i) (map (units sd) (parts ws last (numbersFrom 4 es i)))
+weightFrom seeding ws es fs last i = weighed (numbersFrom 8 fs i) (map (units seeding) (parts ws last (numbersFrom 4 es i)))
 
 unfoldable pub unitsFrom : ℕ → List ℕ → List ℕ → ℕ → ℕ → ℕ
-unitsFrom sd ws es last i = total (map length (map (units sd) (parts ws last (numbersFrom 4 es i))))
+unitsFrom seeding ws es last i = total (map length (map (units seeding) (parts ws last (numbersFrom 4 es i))))
 
-module _ (sd : ℕ) (ws es : List ℕ) where
-  pub units-start : unitCount sd ws es ≡ 0 + unitsFrom sd ws es 0 0
+module _ (seeding : ℕ) (ws es : List ℕ) where
+  pub units-start : unitCount seeding ws es ≡ 0 + unitsFrom seeding ws es 0 0
   unfolding unitCount unitsOf unitsFrom
   units-start =
-      let e : unitsFrom sd ws es 0 0 ≡ 0 + unitsFrom sd ws es 0 0 = omega arith in
+      let e : unitsFrom seeding ws es 0 0 ≡ 0 + unitsFrom seeding ws es 0 0 = omega arith in
       rw (parts-start ws es) e
 
-  pub weight-start : (fs : List ℕ) → capped (weighed (numbers 8 fs) (unitsOf sd ws es)) ≡ capped (0 + weightFrom sd ws es fs 0 0)
+  pub weight-start : (fs : List ℕ) → capped (weighed (numbers 8 fs) (unitsOf seeding ws es)) ≡ capped (0 + weightFrom seeding ws es fs 0 0)
   unfolding unitsOf weightFrom
   weight-start fs =
-      let e : weightFrom sd ws es fs 0 0 ≡ 0 + weightFrom sd ws es fs 0 0 = omega arith in
+      let e : weightFrom seeding ws es fs 0 0 ≡ 0 + weightFrom seeding ws es fs 0 0 = omega arith in
       rw (parts-start ws es, numbers-start 8 fs) (ap capped e)
 
-  module _ (last i e u : ℕ) (h : i < length es / 4) (q : e ≡ nth (numbers 4 es) i) (n : Cut sd ws last e u) where
-    pub units-turn : (k m : ℕ) → k ≡ m + unitsFrom sd ws es last i → k ≡ (m + u) + unitsFrom sd ws es e (i + 1)
+  module _ (last i e u : ℕ) (h : i < length es / 4) (q : e ≡ nth (numbers 4 es) i) (n : UnitsIn seeding ws last e u) where
+    pub units-turn : (k m : ℕ) → k ≡ m + unitsFrom seeding ws es last i → k ≡ (m + u) + unitsFrom seeding ws es e (i + 1)
     unfolding unitsFrom total
     units-turn k m inv =
-        let z : unitsFrom sd ws es last i ≡ u + unitsFrom sd ws es e (i + 1) = rw (parts-step ws es i last e h q, n .is) in
+        let z : unitsFrom seeding ws es last i ≡ u + unitsFrom seeding ws es e (i + 1) = rw (parts-step ws es i last e h q, n .is) in
         omega arith
 
     module _ (fs : List ℕ) (f : ℕ) (l : i < length fs / 8) (g : f ≡ nth (numbers 8 fs) i) where
-      weight-here : weightFrom sd ws es fs last i ≡ f * u + weightFrom sd ws es fs e (i + 1)
+      weight-here : weightFrom seeding ws es fs last i ≡ f * u + weightFrom seeding ws es fs e (i + 1)
       unfolding weightFrom weighed
       weight-here = rw (parts-step ws es i last e h q, numbers-step 8 fs i l, ← g, n .is)
 
-      pub weight-turn : (k w v : ℕ) → Heavier w f u v → k ≡ capped (w + weightFrom sd ws es fs last i) → k ≡ capped (v + weightFrom sd ws es fs e (i + 1))
+      pub weight-turn : (k w v : ℕ) → Heavier w f u v → k ≡ capped (w + weightFrom seeding ws es fs last i) → k ≡ capped (v + weightFrom seeding ws es fs e (i + 1))
       weight-turn k w v r inv =
-          let a : w + (f * u + weightFrom sd ws es fs e (i + 1)) ≡ (w + f * u) + weightFrom sd ws es fs e (i + 1) = omega arith in
+          let a : w + (f * u + weightFrom seeding ws es fs e (i + 1)) ≡ (w + f * u) + weightFrom seeding ws es fs e (i + 1) = omega arith in
           inv
           ∙ ap (λ (x : ℕ). capped (w + x)) weight-here
           ∙ ap capped a
-          ∙ sym (capped-add (w + f * u) (weightFrom sd ws es fs e (i + 1)))
-          ∙ ap (λ (x : ℕ). capped (x + weightFrom sd ws es fs e (i + 1))) (sym (r .is))
+          ∙ sym (capped-add (w + f * u) (weightFrom seeding ws es fs e (i + 1)))
+          ∙ ap (λ (x : ℕ). capped (x + weightFrom seeding ws es fs e (i + 1))) (sym (r .is))
 
   module _ (fs : List ℕ) (last i : ℕ) where
-    units-last : length es / 4 ≤ i → unitsFrom sd ws es last i ≡ 0
+    units-last : length es / 4 ≤ i → unitsFrom seeding ws es last i ≡ 0
     unfolding unitsFrom total
     units-last h = rw (parts-end ws es i last h)
 
-    weight-last : length fs / 8 ≤ i → weightFrom sd ws es fs last i ≡ 0
+    weight-last : length fs / 8 ≤ i → weightFrom seeding ws es fs last i ≡ 0
     unfolding weightFrom weighed
     weight-last h = rw (numbers-end 8 fs i h)
 
-    pub weighed-end : (w m : ℕ) → capped (weighed (numbers 8 fs) (unitsOf sd ws es)) ≡ capped (w + weightFrom sd ws es fs last i)
-        → unitCount sd ws es ≡ m + unitsFrom sd ws es last i → length es / 4 ≤ i → length fs / 8 ≤ i → w ≤ 2 ^ 53 → m ≤ length ws → IsWeighed sd ws es fs w m
+    pub weighed-end : (w m : ℕ) → capped (weighed (numbers 8 fs) (unitsOf seeding ws es)) ≡ capped (w + weightFrom seeding ws es fs last i)
+        → unitCount seeding ws es ≡ m + unitsFrom seeding ws es last i → length es / 4 ≤ i → length fs / 8 ≤ i → w ≤ 2 ^ 53 → m ≤ length ws → IsWeighed seeding ws es fs w m
     weighed-end w m p q h k l few =
         let z = weight-last k in
         let y = units-last h in
-        let s : w + weightFrom sd ws es fs last i ≡ w = omega arith in
+        let s : w + weightFrom seeding ws es fs last i ≡ w = omega arith in
         record { weight-is = sym (p ∙ ap capped s ∙ capped-low w l); units-is = omega arith; few = few }

@@ -14,7 +14,7 @@ unfoldable pub unitCount : ℕ → List ℕ → List ℕ → ℕ
 unitCount seeding ws es = total (map length (unitsOf seeding ws es))
 
 -- r is how many units the word from `from` to `to` is cut into: no more than its bytes, which are within the run
-pub record Cut (seeding : ℕ) (ws : List ℕ) (from to r : ℕ) : Type 0 where
+pub record UnitsIn (seeding : ℕ) (ws : List ℕ) (from to r : ℕ) : Type 0 where
   pub is : r ≡ length (units seeding (part from (to - from) ws))
   pub few : r ≤ to - from
   pub up : from ≤ to

@@ -13,7 +13,7 @@ ghost use Rattle.numbers.specs.Little.{numbers};
 ghost use Rattle.rule.specs.Shapes.{shaped, below, first};
 ghost use Rattle.rule.specs.Table.{roomFor};
 ghost use Rattle.rule.specs.Refusals.{badShape, tooMany, noFrequency, misplaced};
-ghost use Rattle.table.specs.Weighing.{Cut, Heavier, IsWeighed};
+ghost use Rattle.table.specs.Weighing.{UnitsIn, Heavier, IsWeighed};
 ghost use Rattle.table.specs.Answers.{wordsAnswer, tableAnswer};
 use error::TrainError;
 use runs::Order;
@@ -154,7 +154,7 @@ fn first_low(words: &[u8], ends: &[u8]) -> usize
 // How many units the word from `from` to `to` has.
 fn units_in(words: &[u8], from: usize, to: usize, seeding: u64) -> u64
     requires { ⌜ (from ≤ to) × (to ≤ length (now words)) ⌝ }
-    ensures { λ r. ⌜ Cut seeding (now (words .entry)) from to r ⌝ }
+    ensures { λ r. ⌜ UnitsIn seeding (now (words .entry)) from to r ⌝ }
 {
     text::count_units(words, from, to, Seeding::from_number(seeding)) as u64
 }

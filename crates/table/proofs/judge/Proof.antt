@@ -23,7 +23,7 @@ judge-words-requires : tie.Need-judge-words-requires
 judge-words-requires c κs =
     let s = sound _ _ _ _ _ _ _ (c .before .before .before .bad-shape .ensures) (c .before .before .if1 .left) in
     let l = limits _ _ _ _ _ _ _ _ (c .before .too-many .ensures) (c .if2 .left) in
-    (s .even, s .words-shaped, l .bytes-few, l .symbols-few)
+    (s .counts, s .words-shaped, l .bytes-few, l .symbols-few)
 
 returns-3 : tie.Need-returns-3
 returns-3 c = search laws

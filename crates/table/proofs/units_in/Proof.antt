@@ -1,10 +1,10 @@
 -- `table::units_in` meets its contract: the units of a word are those that `text` counts.
 use borrow.Author.Needs.{needs}
-use Rattle.table.proofs.Weighing.{cut-counted}
+use Rattle.table.proofs.Weighing.{units-counted}
 use Rattle.table.proofs.units_in.Statement.{statement}
 use Rattle.table.proofs.units_in.Tie as tie
 
-ruleset laws = (cut-counted, needs)
+ruleset laws = (units-counted, needs)
 
 from-number-requires : tie.Need-from-number-requires
 from-number-requires c κs = search laws
