@@ -40,6 +40,22 @@ lines-changed f cs ds starts (suc n) (suc k) h e g =
     let r = lines-changed f cs ds (starts + 1) n k (omega arith) (rw (a k) e) (λ i l m. rw (a i) (g (suc i) (omega arith) (λ q. m (omega arith)))) in
     ap (λ (x : Entry). x ∷ lines ds (starts + 1) n) first ∙ ap (λ (l : List Entry). line cs (nth cs starts) ∷ l) r
 
+-- the changed word, and every other
+pub change-this : (f : List ℕ → List ℕ) (k : ℕ) (es : List Entry) → k < length es
+    → entryAt (changeAt f k es) k ≡ record { frequency = entryAt es k .frequency; symbols = f (entryAt es k .symbols) }
+unfolding changeAt entryAt
+change-this f k [] h = absurd (omega arith)
+change-this f zero (e ∷ es) h = refl
+change-this f (suc k) (e ∷ es) h = change-this f k es (omega arith)
+
+pub change-other : (f : List ℕ → List ℕ) (k i : ℕ) (es : List Entry) → (i ≡ k → ⊥) → entryAt (changeAt f k es) i ≡ entryAt es i
+unfolding changeAt entryAt
+change-other f k i [] d = refl
+change-other f zero zero (e ∷ es) d = absurd (d refl)
+change-other f zero (suc i) (e ∷ es) d = refl
+change-other f (suc k) zero (e ∷ es) d = refl
+change-other f (suc k) (suc i) (e ∷ es) d = change-other f k i es (λ q. d (ap suc q))
+
 -- each rewrite costs the set a symbol
 pub inUse-rewrite : (a b x k : ℕ) (es : List Entry) → k < length es → inUse (changeAt (rewrite a b x) k es) + rewrites a b (entryAt es k .symbols) ≡ inUse es
 unfolding changeAt inUse entryAt

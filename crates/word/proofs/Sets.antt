@@ -12,7 +12,8 @@ use Rattle.rule.specs.Seeding.{Entry}
 use Rattle.word.specs.Layout.{symbolIn, symbolsAt, endAt, lines, corpus, entryAt, inUse, SameIn, InLine, Words, Numbers}
 use Rattle.word.specs.Pushing.{Placed, Found}
 use Rattle.word.specs.declared.WordSet.{WordSet}
-use Rattle.word.proofs.Views.{symbols-length, symbols-same, corpus-none, corpus-cons, corpus-entry, corpus-lines, lines-same, line-same}
+use Rattle.word.specs.declared.Span.{Span}
+use Rattle.word.proofs.Views.{symbols-length, nth-symbols, symbols-same, corpus-none, corpus-cons, corpus-entry, corpus-lines, lines-same, line-same}
 
 -- WHERE A WORD LIES
 
@@ -51,6 +52,11 @@ module _ (w : WordSet) (cs : List ℕ) (σ : Words w cs) (k s : ℕ) (h : k < w 
     where
       room : s + 2 + n ≤ length cs
       room = omega (arith, p .high, σ .room)
+
+-- and a symbol of it
+pub symbol-found : (w : WordSet) (cs : List ℕ) (k : ℕ) (r : Span) → Found w k cs r → (j : ℕ) → j < r .length
+    → symbolIn (nth cs (r .start + j)) ≡ nth (entryAt (corpus cs (w .starts) (w .count)) k .symbols) j
+symbol-found w cs k r f j h = rw (← f .symbols) (sym (nth-symbols (r .start) (r .length) cs j h))
 
 -- CELLS THAT ARE AS THEY WERE
 
