@@ -1,0 +1,7 @@
+-- The laws of `intern`.
+pub mod Vacant
+pub mod Seek
+pub mod Rooms
+pub mod Lists
+pub mod Interning
+pub mod Many

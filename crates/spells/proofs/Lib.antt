@@ -1,0 +1,3 @@
+-- The laws of `spells`.
+pub mod Equal
+pub mod Hash

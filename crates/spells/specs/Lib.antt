@@ -1,0 +1,2 @@
+-- The definitions of `spells`: the hash of a spelling.
+pub mod Hash
