@@ -1,17 +1,17 @@
 #!/bin/sh
-# Compares the door with the Rust original, both run. The original's files are compiled unchanged from
-# SPLINTR_SRC (default ../shared/docs/src), outside of this repository; the library is
-# target/staticlib/libdoor.a (`rt staticlib door`). Exit status 3: there is no original here.
+# Compares the library with the Rust original, both run: `differential/run.sh [ARGUMENTS]` hands its
+# arguments to the program (differential/src/bin/compare.rs: --whole, --cases N, --seed S, --only GROUP).
+# The original's files are compiled unchanged from SPLINTR_SRC (default ../shared/docs/src), outside of
+# this repository; the library is libdoor.a (`rt staticlib door`) in RINDOVESH_LIB_DIR or
+# target/staticlib. Exit status 3: there is no original here.
 set -e
 cd "$(dirname "$0")/.."
-src=${SPLINTR_SRC:-../shared/docs/src}
-word=$src/crates/train/src/bpe/word.rs
-[ -f "$word" ] || { echo "no original at $src: nothing compared"; exit 3; }
-out=$(mktemp -d)
-trap 'rm -rf "$out"' EXIT
-{
-    printf '#[allow(dead_code)]\n#[path = "%s"]\nmod word;\n' "$(cd "$(dirname "$word")" && pwd)/word.rs"
-    sed 's|^//!|//|' differential/symbols.rs
-} >"$out/main.rs"
-rustc --edition 2021 -O "$out/main.rs" -L target/staticlib -l static=door -o "$out/symbols"
-"$out/symbols"
+SPLINTR_SRC=${SPLINTR_SRC:-../shared/docs/src}
+if [ ! -f "$SPLINTR_SRC/crates/train/src/bpe/mod.rs" ]; then
+    echo "no original at $SPLINTR_SRC: nothing compared"
+    exit 3
+fi
+SPLINTR_SRC=$(cd "$SPLINTR_SRC" && pwd)
+export SPLINTR_SRC
+cargo build --release --offline --locked --quiet --manifest-path differential/Cargo.toml --target-dir target/cargo
+exec target/cargo/release/compare "$@"

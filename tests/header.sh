@@ -1,15 +1,27 @@
 #!/bin/sh
-# Compiles the example in the comment of include/rindovesh.h against target/staticlib/libdoor.a
-# (`rt staticlib door`) and runs it; then the header alone, as C and as C++.
+# Compiles each example in the comments of include/rindovesh.h against the library and runs it; then
+# the header alone, as C and as C++. An example is the indented text behind a line that begins with
+# "Example". The library is libdoor.a (`rt staticlib door`), in RINDOVESH_LIB_DIR or target/staticlib.
 set -e
 cd "$(dirname "$0")/.."
+library=${RINDOVESH_LIB_DIR:-target/staticlib}/libdoor.a
 out=$(mktemp -d)
 trap 'rm -rf "$out"' EXIT
-sed -n '/^ \* Example:/,/^ \*\/$/s/^ \*     //p' include/rindovesh.h > "$out/example.c"
-gcc -std=c99 -Wall -Wextra -Wpedantic -Werror -Iinclude "$out/example.c" target/staticlib/libdoor.a -o "$out/example"
-"$out/example"
+awk -v out="$out" '
+    /^ \* Example/ { taking = 1; started = 0; n++; next }
+    /^ \*     / && taking { started = 1; print substr($0, 8) > (out "/example" n ".c"); next }
+    /^ \*$/ { next }
+    started { taking = 0 }
+' include/rindovesh.h
+count=0
+for example in "$out"/example*.c; do
+    gcc -std=c99 -Wall -Wextra -Wpedantic -Werror -Iinclude "$example" "$library" -o "$out/example"
+    "$out/example"
+    count=$((count + 1))
+done
+[ "$count" -eq "$(grep -c '^ \* Example' include/rindovesh.h)" ]
 gcc -std=c99 -Wall -Wextra -Wpedantic -Werror -fsyntax-only include/rindovesh.h
 if command -v g++ > /dev/null; then
     g++ -Wall -Wextra -Wpedantic -Werror -fsyntax-only include/rindovesh.h
 fi
-echo "the header's example ran right"
+echo "$count examples of the header ran right"

@@ -69,7 +69,7 @@ module _ (p q start n : ℕ) (cs : List ℕ) where
 
 -- THE WORDS OF A SET
 
-drop-entry : (es : List Entry) (k : ℕ) → k < length es → drop k es ≡ entryAt es k ∷ drop (k + 1) es
+pub drop-entry : (es : List Entry) (k : ℕ) → k < length es → drop k es ≡ entryAt es k ∷ drop (k + 1) es
 unfolding entryAt
 drop-entry es k h = rw (add-one k) (drop-cons es k (record { frequency = 0; symbols = [] }) h)
 

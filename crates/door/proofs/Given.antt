@@ -12,24 +12,7 @@ use Rattle.numbers.proofs.Little.{length-spell}
 use Rattle.rule.specs.Shapes.{spellAll, filled}
 use Rattle.rule.specs.Outcome.{told}
 use Rattle.rule.proofs.Lengths.{length-spellAll}
-
--- a run set to 0, and what is then written over its front
-pub laid-all : (run : List ℕ) → laid run 0 (zeros (length run)) ≡ zeros (length run)
-unfolding laid
-laid-all run =
-    let z : drop (0 + length (zeros (length run))) run ≡ [] = drop-of-length-le run {i = 0 + length (zeros (length run))} (omega (arith, length-zeros (length run))) in
-    rw z (append-nil (zeros (length run)))
-
-pub laid-filled : (run new : List ℕ) → length new ≤ length run → laid (zeros (length run)) 0 new ≡ filled run new
-unfolding laid filled
-laid-filled run new h =
-    let m : length run ≡ length new + (length run - length new) = omega arith in
-    let z : 0 + length new ≡ length new = omega arith in
-    let d : drop (length new) (zeros (length run)) ≡ zeros (length run - length new) =
-    ap (λ (n : ℕ). drop (length new) (zeros n)) m
-    ∙ ap (λ (l : List ℕ). drop (length new) l) (sym (zeros-append (length new) (length run - length new)))
-    ∙ drop-at (zeros (length new)) (zeros (length run - length new)) (length new) (length-zeros (length new)) in
-    rw (z, d)
+use Rattle.trainer.proofs.Rooms.{laid-all, laid-filled}
 
 module _ (answer : List ℕ) (long : 64 ≤ length answer) where
   -- as `give` writes them

@@ -1,3 +1,4 @@
 -- The laws of `door`.
 pub mod Given
 pub mod Doors
+pub mod Training

@@ -1,22 +1,15 @@
 -- The answer run holds 0 behind the numbers given, so that a number 0 may be told behind them or not.
 use mathlib.Core.Path.{_≡_, refl, sym, _∙_}
-use mathlib.Core.List.{List, [], _∷_, _++_, flatMap, append-assoc, append-nil}
+use mathlib.Core.List.{List, [], _∷_, _++_, append-assoc}
 use Prim.Native.Nat.{ℕ, _+_, _-_, _*_, _≤_}
 use native.Mathlib.Omega.{arith}
 use lib.ListN.{length, length-append}
 use Rattle.runs.specs.Parts.{nth, zeros}
 use Rattle.runs.proofs.Parts.{length-zeros, zeros-append}
-use Rattle.numbers.specs.Little.{spell}
 use Rattle.numbers.proofs.Little.{spell-zero}
 use Rattle.rule.specs.Shapes.{spellAll, filled}
 use Rattle.rule.specs.Outcome.{told}
-use Rattle.rule.proofs.Lengths.{length-spellAll}
-
--- numbers end to end with one more
-pub spellAll-last : (w : ℕ) (ns : List ℕ) (n : ℕ) → spellAll w (ns ++ (n ∷ [])) ≡ spellAll w ns ++ spell w n
-unfolding spellAll flatMap
-spellAll-last w [] n = append-nil (spell w n)
-spellAll-last w (m ∷ ns) n = rw (spellAll-last w ns n) (sym (append-assoc (spell w m) (spellAll w ns) (spell w n)))
+use Rattle.rule.proofs.Lengths.{length-spellAll, spellAll-last}
 
 -- one number 0 more
 pub told-zero : (answer ns : List ℕ) → 8 * (length ns + 1) ≤ length answer → told answer (ns ++ (0 ∷ [])) ≡ told answer ns

@@ -5,3 +5,5 @@ pub mod Rooms
 pub mod Lists
 pub mod Interning
 pub mod Many
+pub mod Elsewhere
+pub mod Records

@@ -13,6 +13,7 @@ use Rattle.rule.specs.Shapes.{some?}
 use Rattle.rule.specs.Seeding.{intern, numberOf, byteValues}
 use Rattle.rule.specs.Layout.{pieceBytes}
 use Rattle.rule.proofs.Seeding.{Has, found, has-intern}
+use Rattle.rule.proofs.Spelling.{length-byteValues, byteValues-at}
 
 -- A SPELLING
 
@@ -85,11 +86,6 @@ interns-grow ps (s ∷ ss) =
 
 -- THE BYTE VALUES
 
-pub length-values : (n b : ℕ) → length (byteValues n b) ≡ n
-unfolding byteValues
-length-values zero b = refl
-length-values (suc n) b = ap suc (length-values n (suc b))
-
 pub values-append : (m n b : ℕ) → byteValues (m + n) b ≡ byteValues m b ++ byteValues n (b + m)
 unfolding byteValues
 values-append zero n b = let z : 0 + n ≡ n = omega arith in let w : b + 0 ≡ b = omega arith in rw (z, w)
@@ -98,10 +94,6 @@ values-append (suc m) n b =
     let w : b + suc m ≡ suc b + m = omega arith in
     rw (z, w) (ap (λ (l : List (List ℕ)). (b ∷ []) ∷ l) (values-append m n (suc b)))
 
-pub values-none : [] ≡ byteValues 0 0
-unfolding byteValues
-values-none = refl
-
 one-value : (b : ℕ) → byteValues 1 (0 + b) ≡ (b ∷ []) ∷ []
 unfolding byteValues
 one-value b = let z : 0 + b ≡ b = omega arith in rw z
@@ -109,21 +101,6 @@ one-value b = let z : 0 + b ≡ b = omega arith in rw z
 -- one more at the end, and those that are left behind it
 pub values-more : (b : ℕ) → byteValues b 0 ++ ((b ∷ []) ∷ []) ≡ byteValues (b + 1) 0
 values-more b = sym (values-append b 1 0 ∙ ap (λ (l : List (List ℕ)). byteValues b 0 ++ l) (one-value b))
-
-pub values-rest : (n b : ℕ) → b < n → byteValues b 0 ++ ((b ∷ []) ∷ []) ++ byteValues (n - (b + 1)) (b + 1) ≡ byteValues n 0
-values-rest n b h =
-    let z : b + 1 + (n - (b + 1)) ≡ n = omega arith in
-    let w : 0 + (b + 1) ≡ b + 1 = omega arith in
-    ap (λ (l : List (List ℕ)). l ++ byteValues (n - (b + 1)) (b + 1)) (values-more b)
-    ∙ ap (λ (k : ℕ). byteValues (b + 1) 0 ++ byteValues (n - (b + 1)) k) (sym w)
-    ∙ sym (values-append (b + 1) (n - (b + 1)) 0)
-    ∙ ap (λ (k : ℕ). byteValues k 0) z
-
-value-at : (n b j : ℕ) → j < n → getD (byteValues n b) j [] ≡ (b + j) ∷ []
-unfolding byteValues
-value-at zero b j h = absurd (omega arith)
-value-at (suc n) b zero h = let z : b + 0 ≡ b = omega arith in rw z
-value-at (suc n) b (suc j) h = let z : b + suc j ≡ suc b + j = omega arith in rw z (value-at n (suc b) j (omega arith))
 
 head-same : (a b : ℕ) → _≡_ {A = List ℕ} (a ∷ []) (b ∷ []) → a ≡ b
 head-same a b e = cc
@@ -139,9 +116,9 @@ values-step n e =
   where
     other : (j : ℕ) → j < length (byteValues n 0) → getD (byteValues n 0) j [] ≡ n ∷ [] → ⊥
     other j h q =
-        let l = length-values n 0 in
+        let l = length-byteValues n 0 in
         let k : j < n = omega arith in
-        let z = head-same (0 + j) n (sym (value-at n 0 j k) ∙ q) in
+        let z = head-same (0 + j) n (sym (byteValues-at n 0 j k) ∙ q) in
         omega arith
 
 values-first : foldl intern [] (byteValues 0 0) ≡ byteValues 0 0

@@ -2,6 +2,7 @@
 use mathlib.Core.Path.{_≡_}
 use mathlib.Core.Bool.{Bool, _&&_}
 use mathlib.Core.List.{List, [], _∷_, _++_}
+use mathlib.Core.Logic.{_⊎_}
 use Prim.Native.Nat.{ℕ, _+_, _*_, _/_, _%_, _^_, _<_, _≤_}
 use lib.Dec.{eqb}
 use lib.ListN.{length}
@@ -74,9 +75,11 @@ pub record Left (n : ℕ) (s rs xs ys qs vs ws : List ℕ) : Type 0 where
   pub ends : ws ≡ ys
   pub more : intern (pieces xs ys n) s ≡ pieces xs ys n ++ (s ∷ [])
 
--- WHAT AN ANSWER SAYS of the three runs before and after. The room that lacks is named first; an end is too long only where the bytes have room
+-- what has no place for s behind n pieces of u bytes: the ends room, the piece room, or the 4 bytes of an end
+unfoldable pub Lacks : ℕ → ℕ → List ℕ → List ℕ → List ℕ → Type 0
+Lacks n u s xs ys = (length ys < (n + 1) * 4) ⊎ ((length xs < u + length s) ⊎ (4294967295 < u + length s))
+
+-- WHAT AN ANSWER SAYS of the three runs before and after
 unfoldable pub Answer : Interned → ℕ → ℕ → ℕ → ℕ → List ℕ → List ℕ → List ℕ → List ℕ → List ℕ → List ℕ → List ℕ → Type 0
 Answer (is.At k n′ u′) base cap n u s rs xs ys qs vs ws = Gave base cap n u s rs xs ys qs vs ws k n′ u′
-Answer is.NoEnds base cap n u s rs xs ys qs vs ws = Left n s rs xs ys qs vs ws × (length ys < (n + 1) * 4)
-Answer is.NoBytes base cap n u s rs xs ys qs vs ws = Left n s rs xs ys qs vs ws × (length xs < u + length s)
-Answer is.TooLong base cap n u s rs xs ys qs vs ws = Left n s rs xs ys qs vs ws × (4294967295 < u + length s) × (u + length s ≤ length xs)
+Answer is.NoRoom base cap n u s rs xs ys qs vs ws = Left n s rs xs ys qs vs ws × Lacks n u s xs ys

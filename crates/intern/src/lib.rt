@@ -20,7 +20,7 @@ ghost use Rattle.intern.specs.Intern.{spelt, look, Pieces, CanIntern, Ca
 const LONGEST: usize = 4294967295;
 
 // Where the piece n starts, which is where the one before it ends.
-fn piece_start(ends: &[u8], n: usize) -> usize
+pub fn piece_start(ends: &[u8], n: usize) -> usize
     requires { ⌜ n * 4 ≤ length (now ends) ⌝ }
     ensures { λ r. ⌜ r ≡ pieceStart (now (ends .entry)) n ⌝ }
 {
@@ -117,13 +117,11 @@ fn fits(left: usize, prefix: &[u8], unit: &[u8], suffix: &[u8]) -> bool
     suffix.len() <= rest - unit.len()
 }
 
-// A spelling's number, with how many pieces and bytes there are now; or what has no place for it:
-// the ends room, the piece room, or the 4 bytes of an end.
+// A spelling's number, with how many pieces and bytes there are now; or that it has no place: in the
+// ends room, in the piece room, or in the 4 bytes of an end.
 pub enum Interned {
     At(usize, usize, usize),
-    NoEnds,
-    NoBytes,
-    TooLong,
+    NoRoom,
 }
 
 // Puts a spelling that is new behind the others, and its number in the vacant slot.
@@ -145,13 +143,13 @@ fn add(
         (now (room .entry)) (now (pieces .entry)) (now (ends .entry)) (now (room .exit)) (now (pieces .exit)) (now (ends .exit)) ⌝ }
 {
     if ends.len() / 4 <= count {
-        return Interned::NoEnds;
+        return Interned::NoRoom;
     }
     if !fits(pieces.len() - used, prefix, unit, suffix) {
-        return Interned::NoBytes;
+        return Interned::NoRoom;
     }
     if !fits(LONGEST - used, prefix, unit, suffix) {
-        return Interned::TooLong;
+        return Interned::NoRoom;
     }
     let hash = spells::hash_three(prefix, unit, suffix);
     let end = spelling::decorate(pieces, used, prefix, unit, suffix);
@@ -204,6 +202,6 @@ pub fn intern(
             suffix,
             slot,
         ),
-        Found::Full => Interned::NoEnds,
+        Found::Full => Interned::NoRoom,
     }
 }

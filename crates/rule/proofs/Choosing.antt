@@ -190,6 +190,9 @@ module _ (t : Task) (ps : List (List ℕ)) (es : List Entry) where
       (λ i. all-in (Sound t ps es) i (words-sound t ps es es))
       (best-in nothing (candidates t ps es es))
 
+  pub choose-times : 0 < choose t ps es .times → choose t ps es .times ≡ count (choose t ps es .left) (choose t ps es .right) es
+  choose-times h = choose-sound h .counted
+
   -- where the choice is too rare, no pair may be merged
   pub choose-spent : choose t ps es .times < max 1 (t .minFrequency) → (p q : ℕ) → Open t ps es p q → ⊥
   choose-spent h p q o =

@@ -1,13 +1,14 @@
 -- Lengths of what is written, and the zeros behind it.
-use mathlib.Core.Path.{_≡_, refl, ap}
-use mathlib.Core.List.{List, [], _∷_, map, flatMap}
+use mathlib.Core.Path.{_≡_, refl, sym, ap}
+use mathlib.Core.List.{List, [], _∷_, _++_, append-assoc, append-nil, map, flatMap}
 use Prim.Native.Nat.{ℕ, suc, _+_, _-_, _*_, _≤_}
 use native.Mathlib.Nat.{mul-suc, mul-zero}
 use native.Mathlib.Omega.{arith}
 use lib.ListN.{length, drop, length-append, length-map}
 use lib.Seq.{drop-append-seam}
 use Rattle.runs.specs.Parts.{zeros}
-use Rattle.rule.specs.Shapes.{spellAll, endsFrom, filled}
+use Rattle.numbers.specs.Little.{spell}
+use Rattle.rule.specs.Shapes.{spellAll, parts, endsFrom, filled}
 use Rattle.rule.specs.Table.{total}
 use Rattle.rule.specs.Training.{Merge}
 use Rattle.rule.specs.Layout.{pieceBytes, pieceRecords, mergeBytes, savingBytes}
@@ -23,12 +24,24 @@ length-spellAll w (n ∷ ns) =
     let h = length-spellAll w ns in
     simp (length-append, length-spell, mul-suc) (omega arith)
 
-pub length-flat : (ps : List (List ℕ)) → length (flatMap (λ p. p) ps) ≡ total (map length ps)
+-- numbers end to end with one more
+pub spellAll-last : (w : ℕ) (ns : List ℕ) (n : ℕ) → spellAll w (ns ++ (n ∷ [])) ≡ spellAll w ns ++ spell w n
+unfolding spellAll flatMap
+spellAll-last w [] n = append-nil (spell w n)
+spellAll-last w (m ∷ ns) n = rw (spellAll-last w ns n) (sym (append-assoc (spell w m) (spellAll w ns) (spell w n)))
+
+pub length-flat : {A : Type 0} (ps : List (List A)) → length (flatMap (λ p. p) ps) ≡ total (map length ps)
 unfolding flatMap total
 length-flat [] = refl
 length-flat (p ∷ ps) =
     let h = length-flat ps in
     simp length-append (omega arith)
+
+-- as many parts as ends, and as many ends as parts
+pub length-parts : (run : List ℕ) (from : ℕ) (es : List ℕ) → length (parts run from es) ≡ length es
+unfolding parts
+length-parts run from [] = refl
+length-parts run from (e ∷ es) = ap suc (length-parts run e es)
 
 pub length-ends : (from : ℕ) (ps : List (List ℕ)) → length (endsFrom from ps) ≡ length ps
 unfolding endsFrom

@@ -4,6 +4,8 @@ pub mod Order
 pub mod Lengths
 pub mod Spelling
 pub mod Seeding
+pub mod Names
+pub mod Few
 pub mod Rewriting
 pub mod Reports
 pub mod Counts

@@ -4,15 +4,12 @@
 // A contract of what is written says the whole run at exit, by `laid`.
 ghost use mathlib.Core.Path.{_≡_};
 ghost use mathlib.Core.List.{_++_};
-ghost use Prim.Native.Nat.{_+_, _≤_};
+ghost use Prim.Native.Nat.{_+_, _<_, _≤_, _^_};
 ghost use lib.ListN.{length};
 ghost use Rattle.runs.specs.Parts.{part};
 ghost use Rattle.rule.specs.Spelling.{leads, stripPrefix, joined};
-ghost use Rattle.spelling.specs.Lengths.{lengthOf, joinedLength};
+ghost use Rattle.spelling.specs.Lengths.{joinedLength};
 ghost use Rattle.spelling.specs.Writing.{Written};
-
-// The end of a piece has 4 bytes, so that no spelling can have more than this.
-const LONGEST: usize = 4294967295;
 
 // Tells whether a piece begins with a prefix.
 fn has_prefix(piece: &[u8], prefix: &[u8]) -> bool
@@ -51,36 +48,6 @@ fn stripped_length(piece: &[u8], prefix: &[u8]) -> usize
     rest.len()
 }
 
-// The length of a spelling that is still to be written.
-pub enum Length {
-    Bytes(usize),
-    TooLong,
-}
-
-// The length of two parts end to end. The sum is made only where it cannot wrap.
-fn length_of(a: usize, b: usize) -> Length
-    ensures { λ r. ⌜ r ≡ lengthOf (a + b) ⌝ }
-{
-    if LONGEST < a {
-        return Length::TooLong;
-    }
-    if LONGEST - a < b {
-        return Length::TooLong;
-    }
-    Length::Bytes(a + b)
-}
-
-// The length of a unit with its decoration. A part that is absent is empty.
-pub fn decorated_length(prefix: &[u8], unit: &[u8], suffix: &[u8]) -> Length
-    ensures { λ r. ⌜ r ≡ lengthOf (length (now (prefix .entry)) + (length (now (unit .entry)) + length (now (suffix .entry)))) ⌝ }
-{
-    let ending = length_of(unit.len(), suffix.len());
-    match ending {
-        Length::Bytes(n) => length_of(prefix.len(), n),
-        Length::TooLong => Length::TooLong,
-    }
-}
-
 // Writes a unit with its decoration, and gives the place behind it.
 pub fn decorate(run: &mut [u8], at: usize, prefix: &[u8], unit: &[u8], suffix: &[u8]) -> usize
     requires { ⌜ at + (length (now prefix) + (length (now unit) + length (now suffix))) ≤ length (now run) ⌝ }
@@ -96,10 +63,11 @@ pub fn decorate(run: &mut [u8], at: usize, prefix: &[u8], unit: &[u8], suffix: &
 }
 
 // The length of two spellings joined, the left one known by its length alone.
-pub fn joined_length(left: usize, right: &[u8], prefix: &[u8]) -> Length
-    ensures { λ r. ⌜ r ≡ lengthOf (joinedLength left (now (prefix .entry)) (now (right .entry))) ⌝ }
+pub fn joined_length(left: usize, right: &[u8], prefix: &[u8]) -> usize
+    requires { ⌜ left + length (now right) < 2 ^ 64 ⌝ }
+    ensures { λ r. ⌜ r ≡ joinedLength left (now (prefix .entry)) (now (right .entry)) ⌝ }
 {
-    length_of(left, stripped_length(right, prefix))
+    left + stripped_length(right, prefix)
 }
 
 // Joins two spellings that stand in the run below `at`: the left one, then the right one without

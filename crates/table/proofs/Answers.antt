@@ -10,11 +10,12 @@ use borrow.Author.Tests.{lt-ltb, le-ltb, le-leb, lt-leb, eq-eqb, ne-eqb}
 use Rattle.runs.proofs.Parts.{below-or-not}
 use Rattle.numbers.specs.Little.{numbers}
 use Rattle.numbers.proofs.Cells.{length-numbers}
-use Rattle.rule.specs.Shapes.{parts, partsBy, first}
+use Rattle.rule.specs.Shapes.{partsBy, first}
 use Rattle.rule.specs.Table.{Task, Rooms, wordCount, A, U, wordUnits, unitsOf, weighed, roomFor, workNeeded}
 use Rattle.rule.specs.Refusals as row
 use Rattle.rule.specs.Refusals.{Refusal, Verdict, says, success, judge, verdict, badShape, tooMany, emptyCorpus, noFrequency, zeroFrequency, notAbove, misplaced, outOfOrder, tooHeavy, workRoom}
 use Rattle.rule.proofs.Places.{some-first}
+use Rattle.rule.proofs.Lengths.{length-parts}
 use Rattle.error.specs.declared.TrainError.{TrainError}
 use Rattle.error.specs.declared.TrainError.the-variants.{BadShape, TooMany, EmptyCorpus, ZeroFrequency, OutOfOrder, TooHeavy, WorkRoom, SeedRoom, VocabTooSmall, OutputRoom}
 use Rattle.error.specs.Answers.{trainVerdict}
@@ -30,11 +31,6 @@ use Rattle.table.proofs.Weighing.{capped-low, capped-high}
 zero-holds : (fs : List ℕ) → zeroFrequency fs ≡ ltb (first (noFrequency fs)) (length fs / 8)
 unfolding zeroFrequency noFrequency
 zero-holds fs = some-first (noFrequency fs) ∙ ap (ltb (first (noFrequency fs))) (length-map (numbers 8 fs) (eqb 0) ∙ length-numbers 8 fs)
-
-length-parts : (ws : List ℕ) (from : ℕ) (es : List ℕ) → length (parts ws from es) ≡ length es
-unfolding parts
-length-parts ws from [] = refl
-length-parts ws from (e ∷ es) = ap suc (length-parts ws e es)
 
 length-notAbove : (w : List ℕ) (ws : List (List ℕ)) → length (notAbove (w ∷ ws)) ≡ length ws
 unfolding notAbove

@@ -1,18 +1,19 @@
 -- `intern::add` meets its contract: what has no room is refused before anything is written; else the bytes, the end and the slot make one more piece.
 use borrow.Author.Needs.{needs}
 use mathlib.Core.Path.{refl}
+use mathlib.Core.Logic.{inl, inr}
 use native.Mathlib.Omega.{arith}
-use Rattle.intern.specs.Intern.{Answer}
+use Rattle.intern.specs.Intern.{Lacks, Answer}
 use Rattle.intern.proofs.Interning.{left, gave-new, length-three, fits-yes, fits-no}
 use Rattle.intern.proofs.add.Statement.{statement}
 use Rattle.intern.proofs.add.Tie as tie
 
 returns : tie.Need-returns
-unfolding Answer
+unfolding Answer Lacks
 returns c =
     let s = c .before .before .before .before .before .before .before in
     let g = s .args in
-    (left _ _ _ _ _ _ _ _ _ (s .pre), omega (arith, c .if1 .taken))
+    (left _ _ _ _ _ _ _ _ _ (s .pre), inl (omega (arith, c .if1 .taken)))
 
 sub-fits : tie.Need-sub-fits
 sub-fits c = search needs
@@ -21,12 +22,12 @@ fits-requires : tie.Need-fits-requires
 fits-requires c κs = search needs
 
 returns-2 : tie.Need-returns-2
-unfolding Answer
+unfolding Answer Lacks
 returns-2 c =
     let s = c .before .before .before .before .before .before .before .before .before in
     let g = s .args in
     let w = fits-no (g .prefix .now) (g .unit .now) (g .suffix .now) _ _ (c .before .fits2 .ensures) (c .if2 .taken) in
-    (left _ _ _ _ _ _ _ _ _ (s .pre), omega (arith, w, s .pre .ok .rooms .bytes))
+    (left _ _ _ _ _ _ _ _ _ (s .pre), inr (inl (omega (arith, w, s .pre .ok .rooms .bytes))))
 
 sub-fits-2 : tie.Need-sub-fits-2
 sub-fits-2 c = search needs
@@ -35,13 +36,12 @@ fits-requires-2 : tie.Need-fits-requires-2
 fits-requires-2 c κs = search needs
 
 returns-3 : tie.Need-returns-3
-unfolding Answer
+unfolding Answer Lacks
 returns-3 c =
     let s = c .before .before .before .before .before .before .before .before .before .before .before in
     let g = s .args in
     let w = fits-no (g .prefix .now) (g .unit .now) (g .suffix .now) _ _ (c .before .fits3 .ensures) (c .if3 .taken) in
-    let v = fits-yes (g .prefix .now) (g .unit .now) (g .suffix .now) _ _ (c .before .before .before .fits2 .ensures) (c .before .before .if2 .left) in
-    (left _ _ _ _ _ _ _ _ _ (s .pre), omega (arith, w, s .pre .ok .rooms .small), omega (arith, v, s .pre .ok .rooms .bytes))
+    (left _ _ _ _ _ _ _ _ _ (s .pre), inr (inr (omega (arith, w, s .pre .ok .rooms .small))))
 
 hash-three-requires : tie.Need-hash-three-requires
 hash-three-requires c κs = search needs

@@ -1,0 +1,2 @@
+-- The laws of `alphabet`.
+pub mod Going

@@ -1,0 +1,7 @@
+-- The laws of `index`.
+pub mod Blanks
+pub mod Probes
+pub mod Slots
+pub mod Puts
+pub mod Changes
+pub mod Clients

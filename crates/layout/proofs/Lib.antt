@@ -1,0 +1,2 @@
+-- The laws of `layout`.
+pub mod Fits

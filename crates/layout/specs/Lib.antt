@@ -1,0 +1,2 @@
+-- The definitions of `layout`: the regions of the work room.
+pub mod Layout

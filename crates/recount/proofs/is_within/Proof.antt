@@ -1,0 +1,60 @@
+-- `recount::is_within` meets its contract: the four ends tell the left length and the right spelling.
+use borrow.Author.Needs.{needs}
+use Rattle.recount.proofs.Limits.{ends-rise, part-rises, part-inside, lengths-fit, within-is}
+use Rattle.recount.proofs.is_within.Statement.{statement}
+use Rattle.recount.proofs.is_within.Tie as tie
+
+ruleset laws = (ends-rise, part-rises, part-inside, lengths-fit, within-is, needs)
+
+piece-start-requires : tie.Need-piece-start-requires
+piece-start-requires c κs = search needs
+
+add-piece-start : tie.Need-add-piece-start
+add-piece-start c = search needs
+
+piece-start-requires-2 : tie.Need-piece-start-requires-2
+piece-start-requires-2 c κs = search needs
+
+piece-start-requires-3 : tie.Need-piece-start-requires-3
+piece-start-requires-3 c κs = search needs
+
+add-piece-start-2 : tie.Need-add-piece-start-2
+add-piece-start-2 c = search needs
+
+piece-start-requires-4 : tie.Need-piece-start-requires-4
+piece-start-requires-4 c κs = search needs
+
+sub-joined-length : tie.Need-sub-joined-length
+sub-joined-length c = search laws
+
+sub-joined-length-2 : tie.Need-sub-joined-length-2
+sub-joined-length-2 c = search laws
+
+part-joined-length-start : tie.Need-part-joined-length-start
+part-joined-length-start c = search laws
+
+part-joined-length-end : tie.Need-part-joined-length-end
+part-joined-length-end c = search laws
+
+joined-length-requires : tie.Need-joined-length-requires
+joined-length-requires c κs = search laws
+
+returns : tie.Need-returns
+returns c = search laws
+
+pub is-within-spec : {M : Type 1} → statement M
+is-within-spec =
+    tie.close
+    (tie.spec
+    piece-start-requires
+    add-piece-start
+    piece-start-requires-2
+    piece-start-requires-3
+    add-piece-start-2
+    piece-start-requires-4
+    sub-joined-length
+    sub-joined-length-2
+    part-joined-length-start
+    part-joined-length-end
+    joined-length-requires
+    returns)

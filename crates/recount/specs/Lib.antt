@@ -1,0 +1,2 @@
+-- The definitions of `recount`.
+pub mod Recount

@@ -1,0 +1,2 @@
+-- The definitions of `replay`: what was taken fits its rooms.
+pub mod Fit

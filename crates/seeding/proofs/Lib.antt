@@ -1,0 +1,3 @@
+-- The laws of `seeding`.
+pub mod Stages
+pub mod Whole

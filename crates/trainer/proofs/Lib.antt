@@ -1,0 +1,5 @@
+-- The laws of `trainer`.
+pub mod Rows
+pub mod Table
+pub mod Rooms
+pub mod Whole

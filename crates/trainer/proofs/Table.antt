@@ -1,0 +1,201 @@
+-- Rows 9 and 10, and rows 8 to 10, of the code's answers: each is the rule's. Assumes nothing.
+use mathlib.Core.Path.{_≡_, refl, sym, ap, _∙_}
+use mathlib.Core.Bool.{true}
+use mathlib.Core.List.{List, [], _∷_, _++_, map}
+use mathlib.Core.Logic.{_⊎_, inl, inr}
+use Prim.Native.Nat.{ℕ, _+_, _*_, _-_, _/_, _^_, _<_, _≤_}
+use native.Mathlib.Omega.{arith}
+use lib.ListN.{length, length-append}
+use Rattle.runs.specs.Parts.{part, laid, Bytes, Kept}
+use Rattle.runs.proofs.Parts.{length-part, length-laid}
+use Rattle.runs.proofs.Frames.{kept-then, kept-wide}
+use Rattle.training.proofs.Turning.{laid-front}
+use Rattle.numbers.specs.Cells.{cells}
+use Rattle.rule.specs.Table.{Task, Rooms, A, U, alphabet, frequencies, wordUnits, weighed}
+use Rattle.rule.specs.Sums.{AllUnder, symbolsIn}
+use Rattle.rule.specs.Seeding.{decorated, seeds, kept}
+use Rattle.rule.specs.Training.{Merge, trainFrom, trained, allPieces}
+use Rattle.rule.specs.Layout.{pieceBytes, pieceRecords, mergeBytes, savingBytes}
+use Rattle.rule.specs.Refusals.{says, judge}
+use Rattle.rule.specs.Outcome.{clears}
+use Rattle.rule.proofs.Lengths.{length-mergeBytes, length-savingBytes}
+use Rattle.rule.proofs.Seeding.{kept-below}
+use Rattle.rule.proofs.Bounds.{kept-light}
+use Rattle.error.specs.Answers.{trainVerdict}
+use Rattle.error.specs.declared.TrainError.{TrainError}
+use Rattle.error.specs.declared.TrainError.the-variants as why
+use Rattle.table.specs.Answers.{laterRows}
+use Rattle.intern.specs.Pieces.{pieces, Held}
+use Rattle.intern.specs.Many.{Exceed}
+use Rattle.intern.proofs.Rooms.{length-pieces}
+use Rattle.intern.proofs.Many.{bytes-are, length-bytes, exceed-lengths}
+use Rattle.intern.proofs.Records.{records-are}
+use Rattle.word.specs.Layout.{corpus}
+use Rattle.word.specs.declared.WordSet.{WordSet}
+use Rattle.encoding.specs.declared.Encoded.{Encoded}
+use Rattle.encoding.specs.declared.Encoded.the-variants as encoded
+use Rattle.seeding.specs.Seeding.{table, CanSeed, Sown, SeedDone}
+use Rattle.recount.specs.Recount.{Ready}
+use Rattle.training.specs.Training.{Settings, withMerges, Written, TooMuch, TrainedDone}
+use Rattle.training.specs.declared.Trained.{Trained}
+use Rattle.training.specs.declared.Trained.the-variants as grown
+use Rattle.trainer.specs.Train.{taskOf, roomsOf, GrownOut, GrownDone, CanTrain, Front, TableDone}
+use Rattle.trainer.specs.declared.Answer.{Answer}
+use Rattle.trainer.specs.declared.Answer.the-variants as is
+use Rattle.trainer.proofs.Rows.{seed-exceeds, vocab-low, output-exceeds, all-fit}
+
+-- ROWS 9 AND 10
+
+module _ (w : WordSet) (n u : ℕ) (prefix : List ℕ) (size least limit : ℕ) (cs xs ys ms ss : List ℕ) where
+  pub grow-low : (vs ws ns ts : List ℕ) → size < n → GrownDone (is.Refused (why.VocabTooSmall size n)) w n u prefix size least limit cs xs ys ms ss vs ws ns ts
+  unfolding GrownDone GrownOut
+  grow-low vs ws ns ts h = (refl, refl, h)
+
+  module _ (h : n ≤ size) (r : Trained) (vs ws ns ts : List ℕ) (d : TrainedDone r w n u prefix size least limit cs xs ys ms ss vs ws ns ts) where
+    pub grow-out : r ≡ grown.NoRoom → GrownDone (is.Refused why.OutputRoom) w n u prefix size least limit cs xs ys ms ss vs ws ns ts
+    unfolding GrownDone GrownOut
+    grow-out e = (h, rw e at d)
+
+    pub grow-done : (p v k : ℕ) → r ≡ grown.Done p v k → GrownDone (is.Done p n k) w n u prefix size least limit cs xs ys ms ss vs ws ns ts
+    unfolding GrownDone
+    grow-done p v k e = (h, refl, (v, rw e at d))
+
+-- ROWS 8 TO 10. The task of the seeds is the task itself, but for the settings that seeding does not ask for
+
+module _ (ws es fs al ae p s : List ℕ) (seeding size least limit : ℕ) where
+  abbrev t : Task
+  t = taskOf ws es fs al ae p s seeding size least limit
+
+  pub can-seed : (units : ℕ) (work : List ℕ) → CanTrain (taskOf ws es fs al ae p s seeding size least limit) units work → CanSeed (table ws es fs al ae p s seeding) units work
+  unfolding table A U wordUnits
+  can-seed units work c =
+      let g = c .seeds in
+      record {
+        words-shaped = g .words-shaped;
+        symbols-shaped = g .symbols-shaped;
+        counts = g .counts;
+        bytes-few = g .bytes-few;
+        symbols-few = g .symbols-few;
+        symbol-bytes-few = g .symbol-bytes-few;
+        prefix-short = g .prefix-short;
+        suffix-short = g .suffix-short;
+        units-are = g .units-are;
+        units-few = g .units-few;
+        room = g .room;
+      }
+
+  same-seeds : seeds (table ws es fs al ae p s seeding) ≡ seeds (taskOf ws es fs al ae p s seeding size least limit)
+  unfolding table seeds decorated alphabet wordUnits
+  same-seeds = refl
+
+  same-kept : kept (table ws es fs al ae p s seeding) ≡ kept (taskOf ws es fs al ae p s seeding size least limit)
+  unfolding table kept seeds decorated alphabet wordUnits frequencies
+  same-kept = refl
+
+  module _ (work xs ys ms ss : List ℕ) where
+    module _ (units : ℕ) (e : Encoded) (cs vs zs : List ℕ) (d : SeedDone e (table ws es fs al ae p s seeding) units xs ys cs vs zs) where
+      pub table-out : e ≡ encoded.NoRoom → (now : Rooms) → TableDone (is.Refused why.SeedRoom) (taskOf ws es fs al ae p s seeding size least limit) (roomsOf work xs ys ms ss) now
+      unfolding SeedDone TableDone trainVerdict
+      table-out q now = (seed-exceeds (taskOf ws es fs al ae p s seeding size least limit) (roomsOf work xs ys ms ss) (rw same-seeds at (rw q at d)), refl)
+
+      module _ (c u : ℕ) (w : WordSet) (q : e ≡ encoded.Done c u w) where
+        sown : Sown (table ws es fs al ae p s seeding) units xs ys cs vs zs c u w
+        unfolding SeedDone
+        sown = rw q at d
+
+        are : pieces vs zs c ≡ seeds (taskOf ws es fs al ae p s seeding size least limit)
+        are = sown .are ∙ same-seeds
+
+        number : c ≡ length (seeds (taskOf ws es fs al ae p s seeding size least limit))
+        number = sym (length-pieces vs zs c) ∙ ap length are
+
+        bytes : u ≡ length (pieceBytes (seeds (taskOf ws es fs al ae p s seeding size least limit)))
+        bytes = sym (length-bytes c u vs zs (sown .held)) ∙ ap (λ (ps : List (List ℕ)). length (pieceBytes ps)) are
+
+        view : corpus cs (w .starts) (w .count) ≡ kept (taskOf ws es fs al ae p s seeding size least limit)
+        view = sown .view ∙ same-kept
+
+        ends-fit : length (seeds (taskOf ws es fs al ae p s seeding size least limit)) * 4 ≤ length ys
+        ends-fit = omega (arith, number, sown .held .ends, sown .ends .long)
+
+        bytes-fit : length (pieceBytes (seeds (taskOf ws es fs al ae p s seeding size least limit))) ≤ length xs
+        bytes-fit = omega (arith, bytes, sown .held .bytes, sown .bytes .long)
+
+        pub table-ready : CanTrain (taskOf ws es fs al ae p s seeding size least limit) units work → Ready w c u cs vs zs
+        table-ready g = record {
+          words = sown .words;
+          light = rw view (omega (arith, g .light, kept-light (taskOf ws es fs al ae p s seeding size least limit)));
+          below = rw (view, number) (kept-below (taskOf ws es fs al ae p s seeding size least limit));
+          held = sown .held;
+        }
+
+        module _ (a : Answer) (ls ks ns ts : List ℕ) (g : GrownDone a w c u p size least limit cs vs zs ms ss ls ks ns ts) (b : Bytes ks) (after : List ℕ) where
+          settings : Settings (taskOf ws es fs al ae p s seeding size least limit) p least limit
+          settings = record { prefix-is = refl; least-is = refl; limit-is = refl }
+
+          -- the merges of the loop are the task's
+          merges-are : trainFrom (taskOf ws es fs al ae p s seeding size least limit) (size - c) (pieces vs zs c) (corpus cs (w .starts) (w .count))
+              ≡ trained (taskOf ws es fs al ae p s seeding size least limit)
+          unfolding trained
+          merges-are = rw (are, view, number)
+
+          all-are : withMerges (pieces vs zs c) (trained (taskOf ws es fs al ae p s seeding size least limit)) ≡ allPieces (taskOf ws es fs al ae p s seeding size least limit)
+          unfolding allPieces
+          all-are = rw are
+
+          pub table-done : TableDone a (taskOf ws es fs al ae p s seeding size least limit) (roomsOf work xs ys ms ss) (roomsOf after ls ks ns ts)
+          unfolding TableDone GrownDone GrownOut TrainedDone TooMuch trainVerdict
+          table-done = go a g
+            where
+              done : (n v k : ℕ) → c ≤ size → Written (trainFrom (taskOf ws es fs al ae p s seeding size least limit) (size - c) (pieces vs zs c) (corpus cs (w .starts) (w .count))) c u vs zs ms ss ls ks ns ts n v k
+                  → TableDone (is.Done n c k) (taskOf ws es fs al ae p s seeding size least limit) (roomsOf work xs ys ms ss) (roomsOf after ls ks ns ts)
+              done n v k h x =
+                  let o = rw merges-are at x in
+                  let q = taskOf ws es fs al ae p s seeding size least limit in
+                  let ps : pieces ls ks n ≡ allPieces (taskOf ws es fs al ae p s seeding size least limit) = o .are ∙ all-are in
+                  let kb : Kept 0 v xs ls = kept-then (kept-wide {lo = 0} {hi = u} 0 v (omega arith) (omega (arith, o .grows)) (sown .bytes)) (kept-wide {lo = u} {hi = v} 0 v (omega arith) (omega arith) (o .bytes)) in
+                  let ke : Kept 0 (n * 4) ys ks = kept-then (kept-wide {lo = 0} {hi = c * 4} 0 (n * 4) (omega arith) (omega (arith, o .least)) (sown .ends))
+                  (kept-wide {lo = c * 4} {hi = n * 4} 0 (n * 4) (omega arith) (omega arith) (o .ends)) in
+                  let lb : length (pieceBytes (allPieces (taskOf ws es fs al ae p s seeding size least limit))) ≡ v = ap (λ (l : List (List ℕ)). length (pieceBytes l)) (sym ps) ∙ length-bytes n v ls ks (o .held) in
+                  let pr : part 0 (n * 4) ks ≡ pieceRecords (allPieces (taskOf ws es fs al ae p s seeding size least limit)) = records-are n v ls ks (o .held) b ∙ ap pieceRecords ps in
+                  let lr : length (pieceRecords (allPieces (taskOf ws es fs al ae p s seeding size least limit))) ≡ n * 4 = ap length (sym pr) ∙ length-part 0 (n * 4) ks (omega (arith, o .held .ends)) in
+                  let bf : v ≤ length xs = omega (arith, o .held .bytes, kb .long) in
+                  let ef : n * 4 ≤ length ys = omega (arith, o .held .ends, ke .long) in (
+                    all-fit (taskOf ws es fs al ae p s seeding size least limit) (roomsOf work xs ys ms ss) ends-fit bytes-fit (omega (arith, number)) (omega arith) (omega arith) (omega (arith, o .held .small))
+                        (o .merges-fit) (o .savings-fit) n c k (sym (length-pieces ls ks n) ∙ ap length ps) number (o .count),
+                    record {
+                      pieces = laid-front v xs ls (pieceBytes (allPieces (taskOf ws es fs al ae p s seeding size least limit))) kb bf (bytes-are n v ls ks (o .held) ∙ ap pieceBytes ps);
+                      ends = laid-front (n * 4) ys ks (pieceRecords (allPieces (taskOf ws es fs al ae p s seeding size least limit))) ke ef pr;
+                      merges = o .merges;
+                      savings = o .savings;
+                      bytes-fit = omega (arith, lb);
+                      ends-fit = omega (arith, lr);
+                      merges-fit = o .merges-fit;
+                      savings-fit = o .savings-fit;
+                    },
+                  )
+
+              out : (r : TrainError) → GrownOut r w c u p size least limit cs vs zs ms ss ls ks ns ts
+                  → TableDone (is.Refused r) (taskOf ws es fs al ae p s seeding size least limit) (roomsOf work xs ys ms ss) (roomsOf after ls ks ns ts)
+              out (why.VocabTooSmall i j) h =
+                  (rw (h .0, h .1, number) (vocab-low (taskOf ws es fs al ae p s seeding size least limit) (roomsOf work xs ys ms ss) ends-fit bytes-fit (omega (arith, number, h .2))), refl)
+              out why.OutputRoom h =
+                  (output-exceeds (taskOf ws es fs al ae p s seeding size least limit) (roomsOf work xs ys ms ss) ends-fit bytes-fit (omega (arith, number, h .0)) (more (rw merges-are at (h .1 (taskOf ws es fs al ae p s seeding size least limit) settings))), refl)
+                where
+                  more : TooMuch (trained (taskOf ws es fs al ae p s seeding size least limit)) (pieces vs zs c) vs zs ms ss
+                      → Exceed (allPieces (taskOf ws es fs al ae p s seeding size least limit)) xs ys ⊎ ((length ms < length (mergeBytes (trained (taskOf ws es fs al ae p s seeding size least limit)))) ⊎ (length ss < length (savingBytes (trained (taskOf ws es fs al ae p s seeding size least limit)))))
+                  more (inl i) = inl (exceed-lengths (allPieces (taskOf ws es fs al ae p s seeding size least limit)) xs ys vs zs (sown .bytes .long) (sown .ends .long) (rw all-are at i))
+                  more (inr i) = inr i
+              out why.BadShape h = absurd h
+              out why.TooMany h = absurd h
+              out why.EmptyCorpus h = absurd h
+              out (why.ZeroFrequency i) h = absurd h
+              out (why.OutOfOrder i) h = absurd h
+              out why.TooHeavy h = absurd h
+              out (why.WorkRoom i) h = absurd h
+              out why.SeedRoom h = absurd h
+
+              go : (r : Answer) → GrownDone r w c u p size least limit cs vs zs ms ss ls ks ns ts
+                  → TableDone r (taskOf ws es fs al ae p s seeding size least limit) (roomsOf work xs ys ms ss) (roomsOf after ls ks ns ts)
+              go (is.Done n a k) h = rw (h .1) (done n (h .2 .0) k (h .0) (h .2 .1 (taskOf ws es fs al ae p s seeding size least limit) settings))
+              go (is.Refused r) h = out r h

@@ -1,0 +1,3 @@
+-- The laws of `training`.
+pub mod Turning
+pub mod Looping
