@@ -36,7 +36,7 @@ struct Arguments {
 
 fn arguments() -> Option<Arguments> {
     let mut parsed =
-        Arguments { words: vec![10_000], sizes: vec![1_000], seedings: vec![0, 1], seed_only: false, repeat: 1 };
+        Arguments { words: vec![1_000], sizes: vec![300], seedings: vec![0, 1], seed_only: false, repeat: 1 };
     let mut list = std::env::args().skip(1);
     while let Some(argument) = list.next() {
         match &argument[..] {
