@@ -1,0 +1,102 @@
+-- The order of choice is total; tests as facts.
+use mathlib.Core.Path.{_≡_, refl, sym}
+use mathlib.Core.Bool.{Bool, true, false, _&&_, _||_}
+use mathlib.Core.Logic.{_⊎_, inl, inr}
+use Prim.Native.Nat.{ℕ, _≤_, _<_}
+use native.Mathlib.Omega.{arith}
+use lib.Dec.{eqb, ltb}
+use borrow.Author.Tests.{ltb-true, ltb-false, eqb-true, eqb-false}
+use Rattle.rule.specs.Training.{Choice, better}
+use Rattle.rule.specs.Demand.{Lower}
+
+-- e stands before f in the order of choice, or is f. A record of ≤, so that arithmetic reads it whole
+pub record First (e f : Choice) : Type 0 where
+  pub counts : f .times ≤ e .times
+  pub lefts : f .times ≡ e .times → e .left ≤ f .left
+  pub rights : f .times ≡ e .times → e .left ≡ f .left → e .right ≤ f .right
+
+-- what the test says
+abbrev pub Says : Bool → Choice → Choice → Type 0
+Says true e f = First e f
+Says false e f = First f e
+
+pub better-says : (e f : Choice) → Says (better e f) e f
+better-says e f = go (ltb (f .times) (e .times)) (eqb (e .times) (f .times)) (ltb (e .left) (f .left)) (eqb (e .left) (f .left)) (ltb (e .right) (f .right)) refl refl refl refl refl
+  where
+    go : (x y u v w : Bool) → ltb (f .times) (e .times) ≡ x → eqb (e .times) (f .times) ≡ y → ltb (e .left) (f .left) ≡ u → eqb (e .left) (f .left) ≡ v
+        → ltb (e .right) (f .right) ≡ w → Says (x || (y && (u || (v && w)))) e f
+    go true y u v w ex ey eu ev ew = let h = ltb-true (f .times) (e .times) ex in omega arith
+    go false false u v w ex ey eu ev ew =
+        let h = ltb-false (f .times) (e .times) ex in
+        let n = eqb-false (e .times) (f .times) ey in
+        omega arith
+    go false true true v w ex ey eu ev ew =
+        let h = eqb-true (e .times) (f .times) ey in
+        let l = ltb-true (e .left) (f .left) eu in
+        omega arith
+    go false true false false w ex ey eu ev ew =
+        let h = eqb-true (e .times) (f .times) ey in
+        let l = ltb-false (e .left) (f .left) eu in
+        let n = eqb-false (e .left) (f .left) ev in
+        omega arith
+    go false true false true true ex ey eu ev ew =
+        let h = eqb-true (e .times) (f .times) ey in
+        let l = eqb-true (e .left) (f .left) ev in
+        let r = ltb-true (e .right) (f .right) ew in
+        omega arith
+    go false true false true false ex ey eu ev ew =
+        let h = eqb-true (e .times) (f .times) ey in
+        let l = eqb-true (e .left) (f .left) ev in
+        let r = ltb-false (e .right) (f .right) ew in
+        omega arith
+
+pub first-refl : (e : Choice) → First e e
+first-refl e = omega arith
+
+pub first-trans : {e f g : Choice} → First e f → First f g → First e g
+first-trans {e} {f} {g} x y = record {
+  counts = omega arith;
+  lefts = λ k. let a = x .lefts (omega arith) in let b = y .lefts (omega arith) in omega arith;
+  rights = λ k l.
+      let a = x .lefts (omega arith) in
+      let b = y .lefts (omega arith) in
+      let c = x .rights (omega arith) (omega arith) in
+      let d = y .rights (omega arith) (omega arith) in
+      omega arith;
+}
+
+-- a lower count of the second keeps the first before it
+pub first-lower : {e f : Choice} → First e f → (d : ℕ) → d ≤ f .times → First e (record { left = f .left; right = f .right; times = d })
+first-lower {e} {f} x d h = record {
+  counts = omega arith;
+  lefts = λ k. x .lefts (omega arith);
+  rights = λ k l. x .rights (omega arith) l;
+}
+
+-- of another pair it is ahead, as demand 3 says it
+pub first-ahead : (e f : Choice) → First e f → ((f .left ≡ e .left) × (f .right ≡ e .right) → ⊥)
+    → (f .times < e .times) ⊎ ((f .times ≡ e .times) × Lower (e .left) (e .right) (f .left) (f .right))
+first-ahead e f x n = go (ltb (f .times) (e .times)) (ltb (e .left) (f .left)) (eqb (f .right) (e .right)) refl refl refl
+  where
+    go : (a b c : Bool) → ltb (f .times) (e .times) ≡ a → ltb (e .left) (f .left) ≡ b → eqb (f .right) (e .right) ≡ c
+        → (f .times < e .times) ⊎ ((f .times ≡ e .times) × Lower (e .left) (e .right) (f .left) (f .right))
+    go true b c ea eb ec = inl (ltb-true _ _ ea)
+    go false true c ea eb ec = let h = ltb-false (f .times) (e .times) ea in inr (omega arith, inl (ltb-true _ _ eb))
+    go false false true ea eb ec =
+        let h = ltb-false (f .times) (e .times) ea in
+        let l = ltb-false (e .left) (f .left) eb in
+        let m = x .lefts (omega arith) in
+        absurd (n (omega arith, eqb-true _ _ ec))
+    go false false false ea eb ec =
+        let h = ltb-false (f .times) (e .times) ea in
+        let l = ltb-false (e .left) (f .left) eb in
+        let k = eqb-false (f .right) (e .right) ec in
+        let same : f .times ≡ e .times = omega arith in
+        let m = x .lefts same in
+        let left : e .left ≡ f .left = omega arith in
+        let r = x .rights same left in
+        inr (same, inr (left, omega arith))
+
+-- a test cannot have both answers
+pub differ : {A : Type 0} → (b : Bool) → b ≡ true → b ≡ false → A
+differ b e f = let z : _≡_ {A = ℕ} 0 1 = cc in absurd (omega arith)

@@ -1,0 +1,3 @@
+-- The definitions of `lazy`.
+pub mod Lazy
+pub mod Sums
