@@ -2,7 +2,7 @@
 use mathlib.Core.Path.{_≡_, refl, _∙_}
 use mathlib.Core.Bool.{Bool, true, false, cond, _||_}
 use mathlib.Core.List.{List, [], _∷_, _++_}
-use Prim.Native.Nat.{ℕ, suc, _+_, _*_, _≤_, _<_}
+use Prim.Native.Nat.{ℕ, _+_, _*_, _≤_, _<_}
 use native.Mathlib.Omega.{arith}
 use lib.Dec.{eqb}
 use lib.ListN.{length, length-append}
@@ -14,10 +14,10 @@ use Rattle.rule.specs.Training.{count, rewriteAll, Choice}
 use Rattle.rule.specs.Sums.{occurs, AllUnder}
 use Rattle.rule.proofs.Rewriting.{length-rewrite, new-occurs}
 use Rattle.rule.proofs.Counts.{below-fresh}
-use Rattle.lazy.specs.Lazy.{insert, total, Pair, pair, live, spots, allSpots, enterAll, holding, seeds, gained, piecesWith, wordsWith, units}
+use Rattle.lazy.specs.Lazy.{insert, total, Pair, pair, live, spots, allSpots, enterAll, holding, seeds, gained, wordsWith, units}
 use Rattle.lazy.specs.Sums.{allRewrites, stale, potential}
+use Rattle.lazy.specs.Invariant.{Inv}
 use Rattle.lazy.proofs.Queue.{total-insert, length-insert, enterAll-keeps, length-enterAll}
-use Rattle.lazy.proofs.Invariant.{Inv}
 use Rattle.lazy.proofs.Stale.{stale-live, stale-with}
 
 -- AN ENTRY DROPPED, and one corrected

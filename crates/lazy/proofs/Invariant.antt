@@ -1,7 +1,7 @@
 -- The invariant of the lazy queue: it holds of the seeds, and every turn keeps it.
 use mathlib.Core.Path.{_≡_, refl, sym, _∙_}
 use mathlib.Core.Bool.{Bool, true, false, _||_}
-use mathlib.Core.List.{List, [], _∷_, _++_}
+use mathlib.Core.List.{List, [], _∷_}
 use mathlib.Core.Logic.{_⊎_, inl}
 use Prim.Native.Nat.{ℕ, zero, suc, _+_, _≤_, _<_, max}
 use native.Mathlib.Omega.{arith}
@@ -11,31 +11,17 @@ use borrow.Author.Tests.{eqb-false}
 use Rattle.rule.specs.Table.{Task}
 use Rattle.rule.specs.Seeding.{Entry}
 use Rattle.rule.specs.Rewriting.{bit, isPair}
-use Rattle.rule.specs.Training.{count, rewriteAll, within, Choice}
+use Rattle.rule.specs.Training.{count, within, Choice}
 use Rattle.rule.specs.Sums.{AllUnder}
 use Rattle.rule.specs.Demand.{Lower, Open, Chosen}
 use Rattle.rule.proofs.Rewriting.{pair-true}
 use Rattle.rule.proofs.Counts.{counts-fall, counted-below}
 use Rattle.lazy.specs.Lazy.{insert, total, entries, Pair, live, allSpots, enterAll, holding, seeds, gained, piecesWith, wordsWith}
-use Rattle.lazy.proofs.Order.{First, first-refl, first-lower, first-ahead}
+use Rattle.lazy.specs.Invariant.{First, Every, Sorted, Fair, Inv}
+use Rattle.lazy.proofs.Order.{first-refl, first-lower, first-ahead}
 use Rattle.lazy.proofs.Old.{length-with, sound-with, within-with, old-with, gone-with}
 use Rattle.lazy.proofs.Spots.{In, counted-in, spots-below, in-holding, holding-in, either-false}
-use Rattle.lazy.proofs.Queue.{Every, every-map, every-two, every-insert, Sorted, sorted-insert, Found, find, entries-cons, entries-insert, isOf-live, enterAll-keeps, enterAll-stay, enterAll-has}
-
--- an entry that promises no less than its pair has, of numbers in use
-pub record Fair (ps : List (List ℕ)) (es : List Entry) (f : Choice) : Type 0 where
-  pub promise : count (f .left) (f .right) es ≤ f .times
-  pub left-known : f .left < length ps
-  pub right-known : f .right < length ps
-
--- THE INVARIANT: the queue is in order, with one entry at most for a pair and one for each pair within the limit that occurs (an over-long one may be
--- gone for good); an entry may be stale, but then it promises too much
-pub record Inv (t : Task) (ps : List (List ℕ)) (es : List Entry) (qu : List Choice) : Type 0 where
-  pub sound : AllUnder (length ps) es
-  pub sorted : Sorted qu
-  pub unique : (p q : ℕ) → entries p q qu ≤ 1
-  pub present : (p q : ℕ) → within t ps p q ≡ true → 1 ≤ count p q es → 1 ≤ entries p q qu
-  pub fair : Every (Fair ps es) qu
+use Rattle.lazy.proofs.Queue.{every-map, every-two, every-insert, sorted-insert, find, entries-cons, entries-insert, isOf-live, enterAll-keeps, enterAll-stay, enterAll-has}
 
 fair-live : (ps : List (List ℕ)) (es : List Entry) (l r : ℕ) → l < length ps → r < length ps → Fair ps es (live es l r)
 unfolding live

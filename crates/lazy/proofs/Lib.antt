@@ -7,3 +7,10 @@ pub mod Invariant
 pub mod Stale
 pub mod Bound
 pub mod Same
+pub mod Table
+pub mod Steps
+pub mod Loop
+pub mod Canon
+pub mod Gains
+pub mod Falling
+pub mod Examples

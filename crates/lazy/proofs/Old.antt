@@ -1,24 +1,16 @@
 -- A pair gains occurrences only in the merge that makes its newer symbol: a pair of numbers in use never rises, and what it spells stays.
 use mathlib.Core.Path.{_≡_}
-use mathlib.Core.List.{List, [], _∷_, _++_}
-use Prim.Native.Nat.{ℕ, zero, suc, _+_, _≤_, _<_}
+use mathlib.Core.List.{List, [], _∷_}
+use Prim.Native.Nat.{ℕ, suc, _≤_, _<_}
 use native.Mathlib.Omega.{arith}
-use lib.ListN.{length, getD, length-append, List·getD-append}
+use lib.ListN.{length, length-append, List·getD-append}
 use Rattle.rule.specs.Table.{Task}
 use Rattle.rule.specs.Seeding.{Entry}
-use Rattle.rule.specs.Training.{count, rewriteAll, joinedOf, within, Choice}
+use Rattle.rule.specs.Training.{count, joinedOf, within, Choice}
 use Rattle.rule.specs.Sums.{AllUnder}
 use Rattle.rule.proofs.Counts.{counts-fall, count-gone, below-all}
 use Rattle.lazy.specs.Lazy.{piecesWith, wordsWith}
-
--- pieces and words after some merges, one after the other
-unfoldable pub piecesUpon : Task → List (List ℕ) → List Choice → List (List ℕ)
-piecesUpon t ps [] = ps
-piecesUpon t ps (e ∷ cs) = piecesUpon t (piecesWith t ps e) cs
-
-unfoldable pub wordsUpon : Task → List (List ℕ) → List Entry → List Choice → List Entry
-wordsUpon t ps es [] = es
-wordsUpon t ps es (e ∷ cs) = wordsUpon t (piecesWith t ps e) (wordsWith ps es e) cs
+use Rattle.lazy.specs.Sums.{wordsUpon}
 
 module _ (t : Task) (ps : List (List ℕ)) (es : List Entry) (e : Choice) where
   pub length-with : length (piecesWith t ps e) ≡ suc (length ps)

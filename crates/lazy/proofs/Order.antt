@@ -8,12 +8,7 @@ use lib.Dec.{eqb, ltb}
 use borrow.Author.Tests.{ltb-true, ltb-false, eqb-true, eqb-false}
 use Rattle.rule.specs.Training.{Choice, better}
 use Rattle.rule.specs.Demand.{Lower}
-
--- e stands before f in the order of choice, or is f. A record of ≤, so that arithmetic reads it whole
-pub record First (e f : Choice) : Type 0 where
-  pub counts : f .times ≤ e .times
-  pub lefts : f .times ≡ e .times → e .left ≤ f .left
-  pub rights : f .times ≡ e .times → e .left ≡ f .left → e .right ≤ f .right
+use Rattle.lazy.specs.Invariant.{First}
 
 -- what the test says
 abbrev pub Says : Bool → Choice → Choice → Type 0
@@ -64,6 +59,14 @@ first-trans {e} {f} {g} x y = record {
       let d = y .rights (omega arith) (omega arith) in
       omega arith;
 }
+
+-- no two different entries are equally good
+pub first-anti : (e f : Choice) → First e f → First f e → e ≡ f
+first-anti e f x y =
+    let c : e .times ≡ f .times = omega arith in
+    let l : e .left ≡ f .left = let a = x .lefts (omega arith) in let b = y .lefts (omega arith) in omega arith in
+    let r : e .right ≡ f .right = let a = x .rights (omega arith) l in let b = y .rights (omega arith) (sym l) in omega arith in
+    λ i. record { left = l i; right = r i; times = c i }
 
 -- a lower count of the second keeps the first before it
 pub first-lower : {e f : Choice} → First e f → (d : ℕ) → d ≤ f .times → First e (record { left = f .left; right = f .right; times = d })

@@ -2,17 +2,18 @@
 use mathlib.Core.Path.{_≡_, refl, ap}
 use mathlib.Core.Bool.{Bool, true, false, cond, _&&_}
 use mathlib.Core.List.{List, [], _∷_}
-use Prim.Native.Nat.{ℕ, zero, suc, _+_, _≤_, _<_}
+use Prim.Native.Nat.{ℕ, zero, suc, _+_, _≤_}
 use native.Mathlib.Omega.{arith}
 use lib.Dec.{eqb, leb}
 use lib.ListN.{length}
-use borrow.Author.Tests.{eqb-true, eqb-false, leb-true, leb-false}
+use borrow.Author.Tests.{eqb-true, eqb-false, leb-false}
 use Rattle.rule.specs.Seeding.{Entry}
 use Rattle.rule.specs.Rewriting.{bit, isPair}
 use Rattle.rule.specs.Training.{count, Choice, better}
 use Rattle.rule.proofs.Rewriting.{pair-true, pair-hit}
 use Rattle.lazy.specs.Lazy.{insert, total, isOf, entries, Pair, live, enter, enterAll}
-use Rattle.lazy.proofs.Order.{First, Says, better-says, first-trans}
+use Rattle.lazy.specs.Invariant.{First, Every, Sorted}
+use Rattle.lazy.proofs.Order.{Says, better-says, first-trans}
 use Rattle.lazy.proofs.Spots.{In, here, there}
 
 -- SUMS
@@ -35,10 +36,6 @@ length-insert e (f ∷ qu) = go (better e f) (length-insert e qu)
     go false h = ap suc h
 
 -- WHAT HOLDS OF EVERY ENTRY
-abbrev pub Every : (Choice → Type 0) → List Choice → Type 0
-Every P [] = Unit {0}
-Every P (e ∷ qu) = P e × Every P qu
-
 pub every-map : {P Q : Choice → Type 0} → ((e : Choice) → P e → Q e) → (qu : List Choice) → Every P qu → Every Q qu
 every-map f [] h = tt
 every-map f (e ∷ qu) h = (f e (h .0), every-map f qu (h .1))
@@ -57,10 +54,6 @@ every-insert P e (f ∷ qu) h k = go (better e f) (every-insert P e qu h (k .1))
     go false m = (k .0, m)
 
 -- IN THE ORDER OF CHOICE
-abbrev pub Sorted : List Choice → Type 0
-Sorted [] = Unit {0}
-Sorted (e ∷ qu) = Every (First e) qu × Sorted qu
-
 pub sorted-insert : (e : Choice) (qu : List Choice) → Sorted qu → Sorted (insert e qu)
 unfolding insert
 sorted-insert e [] h = (tt, tt)
@@ -141,7 +134,7 @@ module _ (es : List Entry) where
   enterAll-stay p q cs qu h =
       enterAll-keeps (λ l. 1 ≤ entries p q l) cs (λ c m l z k. rw (entries-insert p q (live es (c .left) (c .right)) l) (omega arith)) qu h
 
-  enter-has : (c : Pair) (qu : List Choice) → 1 ≤ count (c .left) (c .right) es → 1 ≤ entries (c .left) (c .right) (enter es c qu)
+  pub enter-has : (c : Pair) (qu : List Choice) → 1 ≤ count (c .left) (c .right) es → 1 ≤ entries (c .left) (c .right) (enter es c qu)
   enter-has c qu o = enter-case (λ l. 1 ≤ entries (c .left) (c .right) l) c qu (λ h. h o)
       (λ z. rw (entries-insert (c .left) (c .right) (live es (c .left) (c .right)) qu, isOf-live (c .left) (c .right) es (c .left) (c .right))
       (let k = ap bit (pair-hit (c .left) (c .right) (c .left) (c .right) refl refl) in omega arith))

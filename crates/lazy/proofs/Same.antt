@@ -1,23 +1,22 @@
 -- The merges of the lazy rule are those of training, and it takes at most five entries for each symbol.
 use mathlib.Core.Path.{_≡_, refl, sym, ap, _∙_}
 use mathlib.Core.Bool.{Bool, true, false, cond}
-use mathlib.Core.List.{List, [], _∷_, _++_}
-use Prim.Native.Nat.{ℕ, zero, suc, _+_, _-_, _*_, _≤_, _<_, max}
+use mathlib.Core.List.{List, [], _∷_}
+use Prim.Native.Nat.{ℕ, zero, suc, _*_, _≤_, _<_, max}
 use native.Mathlib.Omega.{arith}
 use lib.Dec.{eqb, ltb, leb}
 use lib.ListN.{length}
 use borrow.Author.Tests.{eqb-true, eqb-false, leb-true, leb-false, ltb-true, ltb-false}
 use Rattle.rule.specs.Table.{Task}
 use Rattle.rule.specs.Seeding.{Entry}
-use Rattle.rule.specs.Seeding as seeding
-use Rattle.rule.specs.Training.{count, within, Choice, Merge, mergeOf, trainFrom, trained}
+use Rattle.rule.specs.Training.{count, within, Choice, Merge, mergeOf, trainFrom}
 use Rattle.rule.specs.Sums.{AllUnder}
 use Rattle.rule.proofs.Demand.{train-next, train-spent}
-use Rattle.rule.proofs.Seeding.{kept-below}
-use Rattle.lazy.specs.Lazy.{insert, live, seeds, gained, Turn, again, gone, low, long, join, turn, Took, oneMore, merged, piecesWith, wordsWith, act, lazy, units, lazyTrain}
+use Rattle.lazy.specs.Lazy.{insert, live, seeds, gained, Turn, again, gone, low, long, join, turn, oneMore, merged, piecesWith, wordsWith, act, lazy, units, lazyTrain}
 use Rattle.lazy.specs.Sums.{potential}
+use Rattle.lazy.specs.Invariant.{Inv}
 use Rattle.lazy.proofs.Order.{differ}
-use Rattle.lazy.proofs.Invariant.{Inv, inv-seeds, inv-drop, inv-again, inv-join, inv-chosen, inv-low, inv-empty}
+use Rattle.lazy.proofs.Invariant.{inv-seeds, inv-drop, inv-again, inv-join, inv-chosen, inv-low, inv-empty}
 use Rattle.lazy.proofs.Bound.{potential-drop, potential-again, potential-join, potential-seeds}
 
 -- WHAT A TURN HAS FOUND
@@ -151,8 +150,3 @@ module _ (t : Task) (n : ℕ) (ps : List (List ℕ)) (es : List Entry) (sound : 
   -- and no run takes more, whatever its fuel
   pub lazy-bound : (k : ℕ) → lazy t k n ps es (seeds es) .taken ≤ 5 * units es
   lazy-bound k = omega (arith, lazy-taken t k n ps es (seeds es) (inv-seeds t ps es sound), potential-seeds es)
-
--- of a task: the lazy rule from its seeds and kept words makes the trained merges
-pub lazy-trained : (t : Task) → lazyTrain t (t .vocabSize - length (seeding.seeds t)) (seeding.seeds t) (seeding.kept t) .merges ≡ trained t
-unfolding trained
-lazy-trained t = lazy-same t (t .vocabSize - length (seeding.seeds t)) (seeding.seeds t) (seeding.kept t) (kept-below t)

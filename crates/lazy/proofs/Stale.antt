@@ -4,7 +4,7 @@ use mathlib.Core.Bool.{Bool, true, false, cond}
 use mathlib.Core.List.{List, [], _∷_, _++_}
 use mathlib.Core.Logic.{_≢_}
 use mathlib.Core.Option.{Option, none, some}
-use Prim.Native.Nat.{ℕ, zero, suc, _+_, _*_, _≤_, _<_}
+use Prim.Native.Nat.{ℕ, zero, suc, _+_, _*_, _≤_}
 use native.Mathlib.Omega.{arith}
 use lib.Dec.{eqb}
 use lib.ListN.{length}
@@ -14,12 +14,12 @@ use Rattle.rule.specs.Seeding.{Entry}
 use Rattle.rule.specs.Rewriting.{bit, isPair, Span, one, hit, cut, src, hits, Report, before, after, reportsFrom, rewrite, rewrites, reports, countIn}
 use Rattle.rule.specs.Training.{count, rewriteAll, Choice}
 use Rattle.rule.specs.Sums.{lowered}
-use Rattle.rule.proofs.Rewriting.{length-rewrite, never-rises}
+use Rattle.rule.proofs.Rewriting.{never-rises}
 use Rattle.rule.proofs.Reports.{lowered-append, balance}
-use Rattle.lazy.specs.Lazy.{insert, total, isOf, entries, live, units, wordsWith}
+use Rattle.lazy.specs.Lazy.{total, isOf, entries, live, wordsWith}
 use Rattle.lazy.specs.Sums.{allReports, downs, allRewrites, stale}
-use Rattle.lazy.proofs.Queue.{Every, every-two, none-of, entries-cons, isOf-same}
-use Rattle.lazy.proofs.Invariant.{Fair, Inv}
+use Rattle.lazy.specs.Invariant.{Every, Fair, Inv}
+use Rattle.lazy.proofs.Queue.{every-two, none-of, entries-cons, isOf-same}
 
 -- SUMS OVER THE QUEUE
 total-add : (g h : Choice → ℕ) (qu : List Choice) → total (λ f. g f + h f) qu ≡ total g qu + total h qu
@@ -49,7 +49,7 @@ eqb-sym a b = go (eqb a b) refl
     go true e = sym (eq-eqb b a (sym (eqb-true a b e)))
     go false e = sym (ne-eqb b a (λ k. eqb-false a b e (sym k)))
 
-isPair-sym : (p q s t : ℕ) → isPair p q s t ≡ isPair s t p q
+pub isPair-sym : (p q s t : ℕ) → isPair p q s t ≡ isPair s t p q
 isPair-sym p q s t = rw (eqb-sym s p, eqb-sym t q)
 
 -- A REWRITE HAS AT MOST TWO REPORTS that lower a count

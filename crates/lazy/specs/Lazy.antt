@@ -1,6 +1,6 @@
 -- The lazy rule: a queue of pairs, each with the count that it was entered with, in place of a recount before each merge. No entry is looked for when a
 -- merge changes counts: whether it is stale is asked when it comes to be taken, and it is then corrected and put back.
-use mathlib.Core.Bool.{Bool, cond, _&&_, _||_}
+use mathlib.Core.Bool.{cond, _&&_, _||_}
 use mathlib.Core.List.{List, [], _∷_, _++_}
 use Prim.Native.Nat.{ℕ, zero, suc, _+_, _*_, max}
 use lib.Dec.{eqb, ltb, leb}

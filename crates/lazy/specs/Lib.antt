@@ -1,3 +1,5 @@
 -- The definitions of `lazy`.
 pub mod Lazy
 pub mod Sums
+pub mod Invariant
+pub mod Loop

@@ -1,13 +1,14 @@
 -- Sums that the laws of the lazy rule speak of. No outcome is made of them.
 use mathlib.Core.Bool.{cond}
 use mathlib.Core.List.{List, [], _∷_, _++_}
-use Prim.Native.Nat.{ℕ, _+_, _*_}
+use Prim.Native.Nat.{ℕ, _+_, _*_, _≤_}
 use lib.Dec.{eqb}
 use lib.ListN.{length}
+use Rattle.rule.specs.Table.{Task}
 use Rattle.rule.specs.Seeding.{Entry}
 use Rattle.rule.specs.Rewriting.{Report, rewrites, reports}
-use Rattle.rule.specs.Training.{count, Choice}
-use Rattle.lazy.specs.Lazy.{total, units}
+use Rattle.rule.specs.Training.{count, Choice, Merge}
+use Rattle.lazy.specs.Lazy.{total, piecesWith, wordsWith, units}
 
 -- the reports of a merge, of all words
 unfoldable pub allReports : ℕ → ℕ → ℕ → List Entry → List Report
@@ -31,3 +32,18 @@ stale es f = cond (eqb (count (f .left) (f .right) es) (f .times)) 0 1
 -- THE POTENTIAL, of which each entry taken costs 1: a stale entry is taken twice, and a rewrite can make two stale and enter two
 unfoldable pub potential : List Entry → List Choice → ℕ
 potential es qu = length qu + total (stale es) qu + 4 * units es
+
+-- the pieces after some merges, one after the other
+unfoldable pub piecesUpon : Task → List (List ℕ) → List Choice → List (List ℕ)
+piecesUpon t ps [] = ps
+piecesUpon t ps (e ∷ cs) = piecesUpon t (piecesWith t ps e) cs
+
+-- the words
+unfoldable pub wordsUpon : Task → List (List ℕ) → List Entry → List Choice → List Entry
+wordsUpon t ps es [] = es
+wordsUpon t ps es (e ∷ cs) = wordsUpon t (piecesWith t ps e) (wordsWith ps es e) cs
+
+-- savings that are at most c, and never rise
+unfoldable pub FallsFrom : ℕ → List Merge → Type 0
+FallsFrom c [] = Unit {0}
+FallsFrom c (m ∷ ms) = (m .saved ≤ c) × FallsFrom (m .saved) ms

@@ -1,0 +1,115 @@
+-- Savings never rise from a merge to the next, and there are no more merges than symbols.
+use mathlib.Core.Path.{_≡_, refl, sym, _∙_}
+use mathlib.Core.Bool.{Bool, true, false}
+use mathlib.Core.List.{List, [], _∷_}
+use mathlib.Core.Logic.{_≢_, ⊎-elim}
+use Prim.Native.Nat.{ℕ, zero, suc, _+_, _*_, _≤_, _<_, max}
+use native.Mathlib.Nat.{mul-zero}
+use native.Mathlib.Omega.{arith}
+use lib.Dec.{eqb, ltb}
+use lib.ListN.{length}
+use borrow.Author.Tests.{eqb-true, eqb-false, ltb-true, ltb-false}
+use Rattle.rule.specs.Table.{Task}
+use Rattle.rule.specs.Seeding.{Entry}
+use Rattle.rule.specs.Rewriting.{rewrites, countIn}
+use Rattle.rule.specs.Training.{count, rewriteAll, saving, within, Choice, choose, Merge, trainFrom}
+use Rattle.rule.specs.Demand.{Chosen}
+use Rattle.rule.specs.Sums.{AllUnder}
+use Rattle.rule.proofs.Rewriting.{rewrites-some}
+use Rattle.rule.proofs.Counts.{rewrites-count, counts-fall, counted-below, counts-new-left, counts-new-right}
+use Rattle.rule.proofs.Choosing.{choose-spent, choose-chosen}
+use Rattle.rule.proofs.Demand.{train-next, train-spent}
+use Rattle.lazy.specs.Lazy.{live, piecesWith, wordsWith, units}
+use Rattle.lazy.specs.Sums.{allRewrites, FallsFrom}
+use Rattle.lazy.proofs.Old.{sound-with, within-with}
+use Rattle.lazy.proofs.Bound.{units-rewrite}
+
+-- the chosen pair has the greatest count
+pub chosen-most : (t : Task) (ps : List (List ℕ)) (es : List Entry) (a b : ℕ) → Chosen t ps es a b → (p q : ℕ) → within t ps p q ≡ true → count p q es ≤ count a b es
+chosen-most t ps es a b c p q w = go (eqb p a) (eqb q b) refl refl
+  where
+    other : ((p ≡ a) × (q ≡ b) → ⊥) → count p q es ≤ count a b es
+    other n = ⊎-elim (λ h. omega arith) (λ h. let z = h .0 in omega arith) (c .ahead p q w n)
+
+    go : (u v : Bool) → eqb p a ≡ u → eqb q b ≡ v → count p q es ≤ count a b es
+    go true true h k =
+        let y : p ≡ a = eqb-true p a h in
+        let z : q ≡ b = eqb-true q b k in
+        rw (y, z) (omega arith)
+    go true false h k = other (λ z. eqb-false q b k (z .1))
+    go false v h k = other (λ z. eqb-false p a h (z .0))
+
+-- AFTER A MERGE no pair within the limit counts more than the merged one did: an old pair never rises, a new one is at most as often as the rewrites
+module _ (t : Task) (ps : List (List ℕ)) (es : List Entry) (a b : ℕ) (sound : AllUnder (length ps) es) (c : Chosen t ps es a b) where
+  abbrev e : Choice
+  e = record { left = a; right = b; times = count a b es }
+
+  abbrev es′ : List Entry
+  es′ = wordsWith ps es e
+
+  old-most : (p q : ℕ) → within t (piecesWith t ps e) p q ≡ true → length ps ≢ p → length ps ≢ q → (n : ℕ) → count p q es′ ≡ n → count p q es′ ≤ count a b es
+  old-most p q f hp hq zero z = omega arith
+  old-most p q f hp hq (suc n) z =
+      let o = counts-fall p q a b (length ps) hp hq es in
+      let m = counted-below (length ps) p q es sound (omega arith) in
+      let g : within t ps p q ≡ true = sym (within-with t ps es e p q (m .0) (m .1)) ∙ f in
+      omega (arith, chosen-most t ps es a b c p q g)
+
+  pub next-most : (p q : ℕ) → within t (piecesWith t ps e) p q ≡ true → count p q es′ ≤ count a b es
+  next-most p q f = go (eqb p (length ps)) (eqb q (length ps)) refl refl
+    where
+      go : (u v : Bool) → eqb p (length ps) ≡ u → eqb q (length ps) ≡ v → count p q es′ ≤ count a b es
+      go true v h k =
+          let y : p ≡ length ps = eqb-true p (length ps) h in
+          rw y (omega (arith, counts-new-left a b (length ps) q es sound, rewrites-count a b es))
+      go false true h k =
+          let y : q ≡ length ps = eqb-true q (length ps) k in
+          rw y (omega (arith, counts-new-right a b (length ps) p es sound, rewrites-count a b es))
+      go false false h k = old-most p q f (λ z. eqb-false p (length ps) h (sym z)) (λ z. eqb-false q (length ps) k (sym z)) (count p q es′) refl
+
+-- by cases: training has ended, or a pair is chosen
+train-case : (t : Task) (n : ℕ) (ps : List (List ℕ)) (es : List Entry) (P : List Merge → Type 0) → P []
+    → ((a b : ℕ) → Chosen t ps es a b → P (trainFrom t (suc n) ps es)) → P (trainFrom t (suc n) ps es)
+train-case t n ps es P none some = go (ltb (choose t ps es .times) (max 1 (t .minFrequency))) refl
+  where
+    go : (x : Bool) → ltb (choose t ps es .times) (max 1 (t .minFrequency)) ≡ x → P (trainFrom t (suc n) ps es)
+    go true h = rw (train-spent t (suc n) ps es (choose-spent t ps es (ltb-true _ _ h))) none
+    go false h = some (choose t ps es .left) (choose t ps es .right) (choose-chosen t ps es (ltb-false _ _ h))
+
+-- SAVINGS NEVER RISE
+pub train-falls : (t : Task) (n : ℕ) (ps : List (List ℕ)) (es : List Entry) (c : ℕ) → AllUnder (length ps) es
+    → ((p q : ℕ) → within t ps p q ≡ true → count p q es ≤ c) → FallsFrom c (trainFrom t n ps es)
+unfolding FallsFrom trainFrom saving live
+train-falls t zero ps es c s h = tt
+train-falls t (suc n) ps es c s h = train-case t n ps es (FallsFrom c) tt (λ a b d. go a b d (train-falls t n))
+  where
+    go : (a b : ℕ) → Chosen t ps es a b
+        → ((ps : List (List ℕ)) (es : List Entry) (c : ℕ) → AllUnder (length ps) es → ((p q : ℕ) → within t ps p q ≡ true → count p q es ≤ c) → FallsFrom c (trainFrom t n ps es))
+        → FallsFrom c (trainFrom t (suc n) ps es)
+    go a b d f =
+        rw (train-next t n ps es a b d)
+        (h a b (d .isOpen .inLimit), f (piecesWith t ps (live es a b)) (wordsWith ps es (live es a b)) (count a b es) (sound-with t ps es (live es a b) s) (next-most t ps es a b s d))
+
+-- A MERGE COSTS A SYMBOL, so there are no more merges than symbols
+rewrites-any : (a b : ℕ) (es : List Entry) → 1 ≤ count a b es → 1 ≤ allRewrites a b es
+unfolding count allRewrites
+rewrites-any a b [] h = absurd (omega arith)
+rewrites-any a b (e ∷ es) h = go (countIn a b (e .symbols)) refl (rewrites-any a b es) h
+  where
+    go : (c : ℕ) → countIn a b (e .symbols) ≡ c → (1 ≤ count a b es → 1 ≤ allRewrites a b es) → 1 ≤ e .frequency * c + count a b es → 1 ≤ rewrites a b (e .symbols) + allRewrites a b es
+    go zero z f k = omega (arith, f (omega (arith, mul-zero (e .frequency))))
+    go (suc c) z f k = omega (arith, rewrites-some a b (e .symbols) (omega arith))
+
+pub merge-shrinks : (a b x : ℕ) (es : List Entry) → 1 ≤ count a b es → units (rewriteAll a b x es) < units es
+merge-shrinks a b x es h = omega (arith, units-rewrite a b x es, rewrites-any a b es h)
+
+pub merges-units : (t : Task) (n : ℕ) (ps : List (List ℕ)) (es : List Entry) → length (trainFrom t n ps es) ≤ units es
+unfolding trainFrom live
+merges-units t zero ps es = omega arith
+merges-units t (suc n) ps es = train-case t n ps es (λ ms. length ms ≤ units es) (omega arith) (λ a b d. go a b d (merges-units t n))
+  where
+    go : (a b : ℕ) → Chosen t ps es a b → ((ps : List (List ℕ)) (es : List Entry) → length (trainFrom t n ps es) ≤ units es) → length (trainFrom t (suc n) ps es) ≤ units es
+    go a b d f =
+        let m = merge-shrinks a b (length ps) es (d .isOpen .occurs) in
+        let k = f (piecesWith t ps (live es a b)) (wordsWith ps es (live es a b)) in
+        rw (train-next t n ps es a b d) (omega arith)
