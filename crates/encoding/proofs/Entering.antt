@@ -96,6 +96,7 @@ pub record Entering (set : WordSet) (base cap c u : ℕ) (fs gs : List ℕ) (ds 
   pub starts-is : w .starts ≡ set .starts
   pub low-is : w .low ≡ set .low
   pub room : w .top + 2 + 2 * total (map length todo) ≤ base
+  pub most : w .top + 2 * total (map length todo) ≤ set .top + 2 * total (map length ds)
   pub places : 2 * (w .starts + w .count) + total (map length todo) < 2 * w .low
 
 kept-end : (ps : List (List ℕ)) (gs : List ℕ) → keptWith ps gs [] ≡ []
@@ -116,7 +117,7 @@ module _ (set : WordSet) (base cap c u : ℕ) (fs gs : List ℕ) (ds todo : List
         ∙ ap (λ (l : List ℕ). keptWith (after xs ys c (flatMap (λ d. d) ds)) l ds) k,
     g .starts-is,
     g .low-is,
-    omega (arith, g .room),
+    omega (arith, g .most),
   )
 
   module _ (f : ℕ) (hs : List ℕ) (us : List (List ℕ)) (p s : List ℕ) (rest : List (List (List ℕ))) (e : todo ≡ decorate p s us ∷ rest) (i : gs ≡ f ∷ hs) where
@@ -169,5 +170,6 @@ module _ (set : WordSet) (base cap c u : ℕ) (fs gs : List ℕ) (ds todo : List
             starts-is = t .starts-is ∙ g .starts-is;
             low-is = t .low-is ∙ g .low-is;
             room = omega (arith, g .room, sum, t .top-most);
+            most = omega (arith, g .most, sum, t .top-most);
             places = omega (arith, g .places, sum, t .count-most, t .starts-is, t .low-is);
           }

@@ -49,15 +49,15 @@ unfolding total
 lengths-same p s [] = refl
 lengths-same p s (us ∷ uss) = let a = length-decorate p s us in let b = lengths-same p s uss in omega arith
 
+pub decorated-total : (seeding : ℕ) (p s ws es : List ℕ) → total (map length (allDecorated seeding p s ws es)) ≡ total (map length (unitsOf seeding ws es))
+unfolding allDecorated
+decorated-total seeding p s ws es = lengths-same p s (unitsOf seeding ws es)
+
 -- THE START
 module _ (set : WordSet) (base cap c u seeding : ℕ) (p s ws es fs rs xs ys : List ℕ) (can : CanSeed base cap c u (decoratedUnits seeding p s ws es) (cells rs) xs ys)
     (fits : Fits set base seeding ws es (cells rs)) where
   all : List (List (List ℕ))
   all = allDecorated seeding p s ws es
-
-  sum : total (map length (allDecorated seeding p s ws es)) ≡ total (map length (unitsOf seeding ws es))
-  unfolding allDecorated
-  sum = lengths-same p s (unitsOf seeding ws es)
 
   begin : Entering set base cap c u (numbers 8 fs) (numbers 8 fs) (allDecorated seeding p s ws es) (allDecorated seeding p s ws es) set xs ys rs xs ys c u
   unfolding decoratedUnits
@@ -69,8 +69,9 @@ module _ (set : WordSet) (base cap c u seeding : ℕ) (p s ws es fs rs xs ys : L
         ∙ ap (λ (l : List Entry). l ++ keptWith (after xs ys c (flatMap (λ d. d) (allDecorated seeding p s ws es))) (numbers 8 fs) (allDecorated seeding p s ws es)) (corpus-none (cells rs) (set .starts));
     starts-is = refl;
     low-is = refl;
-    room = omega (arith, sum, fits .words);
-    places = omega (arith, sum, fits .places, fits .none);
+    room = omega (arith, decorated-total seeding p s ws es, fits .words);
+    most = omega arith;
+    places = omega (arith, decorated-total seeding p s ws es, fits .places, fits .none);
   }
 
   pub words-start : Entering set base cap c u (numbers 8 fs) (numbersFrom 8 fs 0) (allDecorated seeding p s ws es) (wordsFrom seeding p s ws es 0 0) set xs ys rs xs ys c u

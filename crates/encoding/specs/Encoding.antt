@@ -73,7 +73,8 @@ pub record Fits (w : WordSet) (base seeding : ℕ) (ws es cs : List ℕ) : Type 
   pub words : w .top + 2 + 2 * total (map length (unitsOf seeding ws es)) ≤ base
   pub places : 2 * w .starts + total (map length (unitsOf seeding ws es)) < 2 * w .low
 
--- ALL WORDS, of frequencies fs and decorated units ds: their units are interned, and the set has the words that are kept, in the numbers of their pieces
+-- ALL WORDS, of frequencies fs and decorated units ds: their units are interned, and the set has the words that are kept, in the numbers of their pieces,
+-- two cells for each unit at most
 unfoldable pub WordsDone : Encoded → WordSet → ℕ → ℕ → ℕ → ℕ → List ℕ → List (List (List ℕ)) → List ℕ → List ℕ → List ℕ → List ℕ → List ℕ → List ℕ → Type 0
 WordsDone (encoded.Done c′ u′ w′) w base cap c u fs ds rs xs ys qs vs ws =
     Ran base cap c u (after xs ys c (flatMap (λ d. d) ds)) [] xs ys (cells qs) vs ws c′ u′
@@ -81,5 +82,5 @@ WordsDone (encoded.Done c′ u′ w′) w base cap c u fs ds rs xs ys qs vs ws =
     × (corpus (cells qs) (w′ .starts) (w′ .count) ≡ keptWith (after xs ys c (flatMap (λ d. d) ds)) (numbers 8 fs) ds)
     × (w′ .starts ≡ w .starts)
     × (w′ .low ≡ w .low)
-    × (w′ .top ≤ base)
+    × (w′ .top ≤ w .top + 2 * total (map length ds))
 WordsDone encoded.NoRoom w base cap c u fs ds rs xs ys qs vs ws = Exceed (after xs ys c (flatMap (λ d. d) ds)) xs ys

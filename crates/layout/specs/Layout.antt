@@ -2,7 +2,7 @@
 use mathlib.Core.Path.{_≡_}
 use mathlib.Core.Bool.{cond}
 use mathlib.Core.List.{List, [], _∷_}
-use Prim.Native.Nat.{ℕ, _+_, _*_, _/_, _≤_}
+use Prim.Native.Nat.{ℕ, _+_, _*_, _/_, _^_, _<_, _≤_}
 use lib.Dec.{ltb}
 
 -- a region: where it begins, and its cells
@@ -45,22 +45,29 @@ spellingsFor first a = 8 * first + 2 * a + 1
 abbrev pub spellings : ℕ → ℕ → ℕ → Region
 spellings u first a = record { at = tableAt u; many = spellingsFor first a }
 
--- TRAINING by a queue of pairs: records of eight cells for at most 3 u + 1 pairs, the words of each pair, the index of pairs (two cells a slot),
--- the queue of at most 3 u entries (two cells each), the pairs that a merge touched
-abbrev pub records : ℕ → Region
-records u = record { at = unitsAt u; many = 8 * (3 * u + 1) }
+-- TRAINING, with at most 3 u records of pairs: the index of pairs (two cells a slot), its slots a power of two above the records
+pub record IndexSize (u cap : ℕ) : Type 0 where
+  pub above : 3 * u < cap
+  pub below : cap ≤ 6 * u + 1
+  pub exponent : ℕ
+  pub power : cap ≡ 2 ^ exponent
 
-abbrev pub lists : ℕ → Region
-lists u = record { at = unitsAt u + 8 * (3 * u + 1); many = 12 * u }
+abbrev pub index : ℕ → ℕ → Region
+index u cap = record { at = unitsAt u; many = 2 * cap }
 
-abbrev pub index : ℕ → Region
-index u = record { at = unitsAt u + 8 * (3 * u + 1) + 12 * u; many = 12 * u + 64 }
+-- the records, of eight cells each behind three of their own; the words of each pair, four cells a record behind two of their own
+abbrev pub records : ℕ → ℕ → Region
+records u cap = record { at = unitsAt u + 2 * cap; many = 3 + 3 * u * 8 }
 
-abbrev pub queue : ℕ → Region
-queue u = record { at = unitsAt u + 8 * (3 * u + 1) + 12 * u + (12 * u + 64); many = 2 * (3 * u) }
+abbrev pub lists : ℕ → ℕ → Region
+lists u cap = record { at = unitsAt u + 2 * cap + (3 + 3 * u * 8); many = 2 + 4 * (3 * u) }
 
-abbrev pub touched : ℕ → Region
-touched u = record { at = unitsAt u + 8 * (3 * u + 1) + 12 * u + (12 * u + 64) + 2 * (3 * u); many = 3 * u }
+-- the pairs that a merge touched; the queue, two cells an entry
+abbrev pub touched : ℕ → ℕ → Region
+touched u cap = record { at = unitsAt u + 2 * cap + (3 + 3 * u * 8) + (2 + 4 * (3 * u)); many = 2 * (3 * u) }
+
+abbrev pub queue : ℕ → ℕ → Region
+queue u cap = record { at = unitsAt u + 2 * cap + (3 + 3 * u * 8) + (2 + 4 * (3 * u)) + 2 * (3 * u); many = 2 * (3 * u) }
 
 -- the regions that are in use at the same time, stage by stage
 abbrev pub gathering : ℕ → List Region
@@ -69,8 +76,8 @@ gathering u = places u ∷ words u ∷ ordered u ∷ met u ∷ []
 abbrev pub seeding : ℕ → ℕ → ℕ → List Region
 seeding u first a = places u ∷ words u ∷ ordered u ∷ spellings u first a ∷ []
 
-abbrev pub training : ℕ → List Region
-training u = places u ∷ words u ∷ records u ∷ lists u ∷ index u ∷ queue u ∷ touched u ∷ []
+abbrev pub training : ℕ → ℕ → List Region
+training u cap = places u ∷ words u ∷ index u cap ∷ records u cap ∷ lists u cap ∷ touched u cap ∷ queue u cap ∷ []
 
 -- the cells of a work room that document 01 asks for
 abbrev pub cellsFor : ℕ → ℕ → ℕ

@@ -4,7 +4,7 @@
 // training; behind them each stage has regions of its own, over those of the stage before.
 ghost use mathlib.Core.Path.{_≡_};
 ghost use Prim.Native.Nat.{_≤_};
-ghost use Rattle.layout.specs.Layout.{wordsAt, unitsAt, tableAt, slotsFor, spellingsFor};
+ghost use Rattle.layout.specs.Layout.{wordsAt, unitsAt, tableAt, slotsFor, spellingsFor, IndexSize};
 
 // No table has more distinct units: 1,114,112 code points, and 256 bytes.
 const MOST_UNITS: usize = 1114368;
@@ -52,4 +52,17 @@ pub fn spellings_for(first: usize, symbols: usize) -> usize
     ensures { λ r. ⌜ r ≡ spellingsFor first symbols ⌝ }
 {
     8 * first + 2 * symbols + 1
+}
+
+// How many slots the index of pairs has: a power of two, above three for each unit.
+pub fn index_for(units: usize) -> usize
+    requires { ⌜ units ≤ 268435456 ⌝ }
+    ensures { λ r. ⌜ IndexSize units r ⌝ }
+{
+    let most = 3 * units;
+    let mut cap = 1;
+    while cap <= most {
+        cap = cap * 2;
+    }
+    cap
 }

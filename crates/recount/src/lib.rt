@@ -53,7 +53,7 @@ fn is_known(c: Choice, s: u32, t: u32) -> bool
 
 // Tells whether the piece that s and t make is within the limit. Of the left spelling the length is
 // enough, which its two ends tell.
-fn is_within(
+pub fn is_within(
     pieces: &[u8],
     ends: &[u8],
     count: usize,

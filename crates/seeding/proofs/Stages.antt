@@ -43,6 +43,7 @@ use Rattle.word.proofs.Sets.{words-empty}
 use Rattle.encoding.specs.Encoding.{allDecorated, decoratedUnits, Fits, WordsDone}
 use Rattle.encoding.specs.declared.Encoded.{Encoded}
 use Rattle.encoding.specs.declared.Encoded.the-variants as encoded
+use Rattle.encoding.proofs.Words.{decorated-total}
 use Rattle.layout.specs.Layout.{wordsAt, unitsAt, tableAt, slotsFor, spellingsFor, cellsFor}
 use Rattle.layout.proofs.Fits.{slots-bounds, cells-for}
 use Rattle.seeding.specs.Seeding.{table, Counting, Counted, CanBegin, FirstDone, CanGoOn, RestDone, CanSeed, Sown, SeedDone}
@@ -151,7 +152,7 @@ module _ (base cap c u units seeding : ℕ) (wb we fs al ae p s rs xs ys : List 
   }
 
   module _ (a : Seeded) (qs vs zs : List ℕ) (d : alphabet.Seeds a base cap c u (partsBy al ae) rs xs ys qs vs zs) where
-    pub alphabet-out : a ≡ seeded.NoRoom → (cs ls ms : List ℕ) → RestDone encoded.NoRoom base cap c u (partsBy al ae) (allDecorated seeding p s wb we) fs xs ys cs ls ms
+    pub alphabet-out : a ≡ seeded.NoRoom → (cs ls ms : List ℕ) → RestDone encoded.NoRoom base cap c u units (partsBy al ae) (allDecorated seeding p s wb we) fs xs ys cs ls ms
     unfolding alphabet.Seeds RestDone decoratedUnits
     alphabet-out q cs ls ms =
         rw (← interns-append (pieces xs ys c) (partsBy al ae) (flatMap (λ d. d) (allDecorated seeding p s wb we))) at
@@ -177,10 +178,10 @@ module _ (base cap c u units seeding : ℕ) (wb we fs al ae p s rs xs ys : List 
             places = omega (arith, n .starts-is, n .low-is, g .units-are);
           }
 
-      pub rest-done : (b : Encoded) (w : WordSet) (ks ls ms : List ℕ) → WordsDone b w base cap c₁ u₁ fs (allDecorated seeding p s wb we) qs vs zs ks ls ms
-          → RestDone b base cap c u (partsBy al ae) (allDecorated seeding p s wb we) fs xs ys (cells ks) ls ms
+      pub rest-done : (w : WordSet) (low : ℕ) → low ≡ wordsAt units → Numbers w 0 0 low low 0 → (b : Encoded) (ks ls ms : List ℕ) → WordsDone b w base cap c₁ u₁ fs (allDecorated seeding p s wb we) qs vs zs ks ls ms
+          → RestDone b base cap c u units (partsBy al ae) (allDecorated seeding p s wb we) fs xs ys (cells ks) ls ms
       unfolding WordsDone RestDone decoratedUnits
-      rest-done b w ks ls ms h = go b h
+      rest-done w low e n b ks ls ms h = go b h
         where
           same : foldl intern (pieces vs zs c₁) (flatMap (λ d. d) (allDecorated seeding p s wb we))
               ≡ foldl intern (pieces xs ys c) (partsBy al ae ++ flatMap (λ d. d) (allDecorated seeding p s wb we))
@@ -195,11 +196,11 @@ module _ (base cap c u units seeding : ℕ) (wb we fs al ae p s rs xs ys : List 
           ahead = upto (flatMap (λ d. d) (allDecorated seeding p s wb we) ++ []) (sym (append-nil (flatMap (λ d. d) (allDecorated seeding p s wb we))))
 
           go : (r : Encoded) → WordsDone r w base cap c₁ u₁ fs (allDecorated seeding p s wb we) qs vs zs ks ls ms
-              → RestDone r base cap c u (partsBy al ae) (allDecorated seeding p s wb we) fs xs ys (cells ks) ls ms
+              → RestDone r base cap c u units (partsBy al ae) (allDecorated seeding p s wb we) fs xs ys (cells ks) ls ms
           go (encoded.Done c₂ u₂ w₂) i = (
             ran-then base cap c u xs ys _ (flatMap (λ d. d) (allDecorated seeding p s wb we)) [] (cells qs) vs zs c₁ u₁ ahead (cells ks) ls ms c₂ u₂ (i .0),
             i .1,
             rw same at (i .2),
-            i .5,
+            omega (arith, i .5, n .top-is, decorated-total seeding p s wb we, g .units-are),
           )
           go encoded.NoRoom i = ran-exceeds base cap c u xs ys _ (flatMap (λ d. d) (allDecorated seeding p s wb we)) [] (cells qs) vs zs c₁ u₁ ahead i

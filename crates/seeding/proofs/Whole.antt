@@ -164,12 +164,12 @@ module _ (ws es fs al ae p s : List ℕ) (seeding units : ℕ) (rs : List ℕ) (
             place = eb;
           }
 
-          pub whole-done : (e : Encoded) (cs ls ms : List ℕ) → RestDone e base cap c u (partsBy al ae) (allDecorated seeding p s ws es) fs vs zs cs ls ms
+          pub whole-done : (e : Encoded) (cs ls ms : List ℕ) → RestDone e base cap c u units (partsBy al ae) (allDecorated seeding p s ws es) fs vs zs cs ls ms
               → SeedDone e (table ws es fs al ae p s seeding) units xs ys cs ls ms
           unfolding RestDone SeedDone table kept decorated frequencies wordUnits allDecorated
           whole-done e cs ls ms h = go e h
             where
-              go : (r : Encoded) → RestDone r base cap c u (partsBy al ae) (allDecorated seeding p s ws es) fs vs zs cs ls ms → SeedDone r (table ws es fs al ae p s seeding) units xs ys cs ls ms
+              go : (r : Encoded) → RestDone r base cap c u units (partsBy al ae) (allDecorated seeding p s ws es) fs vs zs cs ls ms → SeedDone r (table ws es fs al ae p s seeding) units xs ys cs ls ms
               go (encoded.Done c₂ u₂ w) i =
                   let r = i .0 in
                   record {
@@ -180,6 +180,6 @@ module _ (ws es fs al ae p s : List ℕ) (seeding units : ℕ) (rs : List ℕ) (
                         (kept-wide {lo = c * 4} {hi = c₂ * 4} 0 (c₂ * 4) (omega arith) (omega arith) (r .ends));
                     words = i .1;
                     view = i .2 ∙ ap (λ (ps : List (List ℕ)). keptWith ps (numbers 8 fs) (allDecorated seeding p s ws es)) all;
-                    top = omega (arith, i .3);
+                    top = i .3;
                   }
               go encoded.NoRoom i = exceeded cs ls ms (rw all at (exceed-lengths _ xs ys vs zs (ran .bytes .long) (ran .ends .long) i))

@@ -76,13 +76,13 @@ pub record CanGoOn (base cap c u units seeding : ℕ) (wb we fs al ae p s rs xs 
   pub units-are : units ≡ total (map length (unitsOf seeding wb we))
   pub place : base ≡ tableAt units
 
-unfoldable pub RestDone : Encoded → ℕ → ℕ → ℕ → ℕ → List (List ℕ) → List (List (List ℕ)) → List ℕ → List ℕ → List ℕ → List ℕ → List ℕ → List ℕ → Type 0
-RestDone (encoded.Done c′ u′ w) base cap c u al ds fs xs ys cs vs ws =
+unfoldable pub RestDone : Encoded → ℕ → ℕ → ℕ → ℕ → ℕ → List (List ℕ) → List (List (List ℕ)) → List ℕ → List ℕ → List ℕ → List ℕ → List ℕ → List ℕ → Type 0
+RestDone (encoded.Done c′ u′ w) base cap c u units al ds fs xs ys cs vs ws =
     Ran base cap c u (foldl intern (pieces xs ys c) (al ++ flatMap (λ d. d) ds)) [] xs ys cs vs ws c′ u′
     × Words w cs
     × (corpus cs (w .starts) (w .count) ≡ keptWith (foldl intern (pieces xs ys c) (al ++ flatMap (λ d. d) ds)) (numbers 8 fs) ds)
-    × (w .top ≤ base)
-RestDone encoded.NoRoom base cap c u al ds fs xs ys cs vs ws = Exceed (foldl intern (pieces xs ys c) (al ++ flatMap (λ d. d) ds)) xs ys
+    × (w .top ≤ unitsAt units)
+RestDone encoded.NoRoom base cap c u units al ds fs xs ys cs vs ws = Exceed (foldl intern (pieces xs ys c) (al ++ flatMap (λ d. d) ds)) xs ys
 
 -- ALL OF IT, of a table that rows 1 to 7 do not refuse
 pub record CanSeed (t : Task) (units : ℕ) (rs : List ℕ) : Type 0 where
@@ -106,7 +106,7 @@ pub record Sown (t : Task) (units : ℕ) (xs ys cs vs ws : List ℕ) (c u : ℕ)
   pub ends : Kept 0 (c * 4) ys ws
   pub words : Words w cs
   pub view : corpus cs (w .starts) (w .count) ≡ kept t
-  pub top : w .top ≤ tableAt units
+  pub top : w .top ≤ unitsAt units
 
 unfoldable pub SeedDone : Encoded → Task → ℕ → List ℕ → List ℕ → List ℕ → List ℕ → List ℕ → Type 0
 SeedDone (encoded.Done c u w) t units xs ys cs vs ws = Sown t units xs ys cs vs ws c u w

@@ -111,7 +111,7 @@ fn seed_rest(
 ) -> Encoded
     requires { ⌜ CanGoOn base cap count used units seeding (now words) (now «word_ends») (now frequencies) (now alphabet) (now «alphabet_ends») (now prefix) (now suffix)
         (now room) (now pieces) (now ends) ⌝ }
-    ensures { λ r. ⌜ RestDone r base cap count used (partsBy (now (alphabet .entry)) (now («alphabet_ends» .entry)))
+    ensures { λ r. ⌜ RestDone r base cap count used units (partsBy (now (alphabet .entry)) (now («alphabet_ends» .entry)))
         (allDecorated seeding (now (prefix .entry)) (now (suffix .entry)) (now (words .entry)) (now («word_ends» .entry))) (now (frequencies .entry))
         (now (pieces .entry)) (now (ends .entry)) (cells (now (room .exit))) (now (pieces .exit)) (now (ends .exit)) ⌝ }
 {

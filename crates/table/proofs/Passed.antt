@@ -116,6 +116,9 @@ module _ (t : Task) (r : Rooms) where
     unfolding emptyCorpus
     passed-words = let k = eqb-false (wordCount t) 0 (p .corpus) in omega arith
 
+    pub passed-frequency : zeroFrequency (t .frequencyBytes) ≡ false
+    passed-frequency = p .frequency
+
     pub passed-positive : (i : ℕ) → i < length (frequencies t) → 1 ≤ getD (frequencies t) i 0
     unfolding zeroFrequency noFrequency frequencies
     passed-positive = positive (frequencies t) (none _ (p .frequency))

@@ -11,7 +11,8 @@ use Rattle.runs.proofs.Parts.{length-part, length-laid}
 use Rattle.runs.proofs.Frames.{kept-then, kept-wide}
 use Rattle.training.proofs.Turning.{laid-front}
 use Rattle.numbers.specs.Cells.{cells}
-use Rattle.rule.specs.Table.{Task, Rooms, A, U, alphabet, frequencies, wordUnits, weighed}
+use Rattle.numbers.proofs.Cells.{length-cells}
+use Rattle.rule.specs.Table.{Task, Rooms, A, U, roomFor, alphabet, frequencies, wordUnits, weighed}
 use Rattle.rule.specs.Sums.{AllUnder, symbolsIn}
 use Rattle.rule.specs.Seeding.{decorated, seeds, kept}
 use Rattle.rule.specs.Training.{Merge, trainFrom, trained, allPieces}
@@ -35,13 +36,16 @@ use Rattle.word.specs.declared.WordSet.{WordSet}
 use Rattle.encoding.specs.declared.Encoded.{Encoded}
 use Rattle.encoding.specs.declared.Encoded.the-variants as encoded
 use Rattle.seeding.specs.Seeding.{table, CanSeed, Sown, SeedDone}
-use Rattle.recount.specs.Recount.{Ready}
+use Rattle.layout.specs.Layout.{unitsAt, cellsFor, IndexSize}
+use Rattle.layout.proofs.Fits.{cells-for}
+use Rattle.engine.specs.Engine.{CanStart}
 use Rattle.training.specs.Training.{Settings, withMerges, Written, TooMuch, TrainedDone}
 use Rattle.training.specs.declared.Trained.{Trained}
 use Rattle.training.specs.declared.Trained.the-variants as grown
-use Rattle.trainer.specs.Train.{taskOf, roomsOf, GrownOut, GrownDone, CanTrain, Front, TableDone}
+use Rattle.trainer.specs.Train.{taskOf, roomsOf, CanGrow, GrownOut, GrownDone, CanTrain, Front, TableDone}
 use Rattle.trainer.specs.declared.Answer.{Answer}
 use Rattle.trainer.specs.declared.Answer.the-variants as is
+use Rattle.trainer.proofs.Weights.{sown-live, kept-weighed}
 use Rattle.trainer.proofs.Rows.{seed-exceeds, vocab-low, output-exceeds, all-fit}
 
 -- ROWS 9 AND 10
@@ -59,6 +63,30 @@ module _ (w : WordSet) (n u : ℕ) (prefix : List ℕ) (size least limit : ℕ) 
     pub grow-done : (p v k : ℕ) → r ≡ grown.Done p v k → GrownDone (is.Done p n k) w n u prefix size least limit cs xs ys ms ss vs ws ns ts
     unfolding GrownDone
     grow-done p v k e = (h, refl, (v, rw e at d))
+
+-- the room that document 01 asks for, in cells
+room-cells : (u a : ℕ) (work : List ℕ) → roomFor u a ≤ length work → cellsFor u 0 ≤ length (cells work)
+room-cells u a work h = omega (arith, cells-for u a, length-cells work, mono (roomFor u a) (length work) h)
+  where
+    mono : (m n : ℕ) → m ≤ n → m / 8 ≤ n / 8
+    mono m n k = omega arith
+
+-- there is place for the states of the pairs, and for the queue behind them
+pub grow-starts : (w : WordSet) (n u units size cap : ℕ) (cs xs ys : List ℕ) → CanGrow w n u units cs xs ys → n ≤ size → size ≤ 16777216 → (base : ℕ) → base ≡ unitsAt units → IndexSize units cap
+    → CanStart w (record { base = base; cap = cap; most = 3 * units }) n cs
+grow-starts w n u units size cap cs xs ys g h k base b i =
+    record {
+      words = g .words;
+      apart = omega (arith, g .top, b);
+      few = omega arith;
+      under = g .below;
+      light = g .light;
+      weighed = g .frequent;
+      space = omega (arith, g .live);
+      wide = i .above;
+      narrow = omega (arith, i .below, g .units-few);
+      room = omega (arith, i .below, g .room, b);
+    }
 
 -- ROWS 8 TO 10. The task of the seeds is the task itself, but for the settings that seeding does not ask for
 
@@ -121,13 +149,19 @@ module _ (ws es fs al ae p s : List ℕ) (seeding size least limit : ℕ) where
         bytes-fit : length (pieceBytes (seeds (taskOf ws es fs al ae p s seeding size least limit))) ≤ length xs
         bytes-fit = omega (arith, bytes, sown .held .bytes, sown .bytes .long)
 
-        pub table-ready : CanTrain (taskOf ws es fs al ae p s seeding size least limit) units work → Ready w c u cs vs zs
-        table-ready g = record {
-          words = sown .words;
-          light = rw view (omega (arith, g .light, kept-light (taskOf ws es fs al ae p s seeding size least limit)));
-          below = rw (view, number) (kept-below (taskOf ws es fs al ae p s seeding size least limit));
-          held = sown .held;
-        }
+        pub table-ready : CanTrain (taskOf ws es fs al ae p s seeding size least limit) units work → (rs : List ℕ) → cs ≡ cells rs → length rs ≡ length work → CanGrow w c u units cs vs zs
+        table-ready g rs z l =
+            record {
+              held = sown .held;
+              words = sown .words;
+              top = sown .top;
+              live = sown-live (table ws es fs al ae p s seeding) units xs ys cs vs zs c u w sown (can-seed units work g .units-are);
+              units-few = g .seeds .units-few;
+              room = omega (arith, room-cells units (A (taskOf ws es fs al ae p s seeding size least limit)) work (g .seeds .room), ap length z, length-cells rs, length-cells work, ap (λ (n : ℕ). n / 8) l);
+              light = rw view (omega (arith, g .light, kept-light (taskOf ws es fs al ae p s seeding size least limit)));
+              below = rw (view, number) (kept-below (taskOf ws es fs al ae p s seeding size least limit));
+              frequent = rw view (kept-weighed (taskOf ws es fs al ae p s seeding size least limit) (g .frequent));
+            }
 
         module _ (a : Answer) (ls ks ns ts : List ℕ) (g : GrownDone a w c u p size least limit cs vs zs ms ss ls ks ns ts) (b : Bytes ks) (after : List ℕ) where
           settings : Settings (taskOf ws es fs al ae p s seeding size least limit) p least limit

@@ -18,7 +18,7 @@ use Rattle.table.specs.Answers.{wordsAnswer, tableAnswer, taskAnswer, laterRows
 use Rattle.table.specs.declared.Judged.{Judged}
 use Rattle.table.specs.declared.Judged.the-variants as judged
 use Rattle.table.proofs.Answers.{refused-verdict, fine-verdict}
-use Rattle.table.proofs.Passed.{task-answer, Passed, fine-when, passed-sound, passed-limits, passed-light, passed-few, passed-room}
+use Rattle.table.proofs.Passed.{task-answer, Passed, fine-when, passed-sound, passed-limits, passed-light, passed-frequency, passed-few, passed-room}
 use Rattle.trainer.specs.Train.{taskOf, roomsOf, answered, CanTrain, RoomsDone, TrainDone}
 use Rattle.trainer.specs.declared.Answer.{Answer}
 use Rattle.trainer.specs.declared.Answer.the-variants as is
@@ -97,6 +97,7 @@ module _ (ws es fs al ae p s : List ℕ) (seeding size least limit : ℕ) (work 
           };
           size = li .size-low;
           light = passed-light (taskOf ws es fs al ae p s seeding size least limit) (roomsOf work xs ys ms ss) u passed;
+          frequent = passed-frequency (taskOf ws es fs al ae p s seeding size least limit) (roomsOf work xs ys ms ss) u passed;
         }
 
     pub train-done : (r : Answer) (now : Rooms) → RoomsDone r (taskOf ws es fs al ae p s seeding size least limit) (roomsOf work xs ys ms ss) now

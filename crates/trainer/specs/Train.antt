@@ -1,6 +1,6 @@
 -- What training answers and leaves in the rooms, part by part: rows 9 and 10, rows 8 to 10, all rows.
 use mathlib.Core.Path.{_≡_}
-use mathlib.Core.Bool.{true}
+use mathlib.Core.Bool.{true, false}
 use mathlib.Core.List.{List, [], _∷_}
 use Prim.Native.Nat.{ℕ, _^_, _<_, _≤_}
 use lib.ListN.{length}
@@ -8,13 +8,18 @@ use Rattle.runs.specs.Parts.{laid}
 use Rattle.rule.specs.Table.{Task, Rooms, frequencies, wordUnits, weighed}
 use Rattle.rule.specs.Training.{trained, allPieces}
 use Rattle.rule.specs.Layout.{pieceBytes, pieceRecords, mergeBytes, savingBytes}
-use Rattle.rule.specs.Refusals.{Verdict, says, judge, verdict}
+use Rattle.rule.specs.Sums.{AllUnder, symbolsIn}
+use Rattle.rule.specs.Refusals.{Verdict, says, zeroFrequency, judge, verdict}
 use Rattle.rule.specs.Outcome.{clears, roomsAfter}
 use Rattle.error.specs.Answers.{trainVerdict}
 use Rattle.error.specs.declared.TrainError.{TrainError}
 use Rattle.error.specs.declared.TrainError.the-variants as why
 use Rattle.table.specs.Answers.{laterRows}
+use Rattle.layout.specs.Layout.{unitsAt, cellsFor}
+use Rattle.intern.specs.Pieces.{Held}
+use Rattle.word.specs.Layout.{corpus, Words}
 use Rattle.word.specs.declared.WordSet.{WordSet}
+use Rattle.states.specs.Tracking.{Weighed}
 use Rattle.seeding.specs.Seeding.{CanSeed}
 use Rattle.training.specs.Training.{TrainedDone}
 use Rattle.training.specs.declared.Trained.the-variants as grown
@@ -46,6 +51,18 @@ unfoldable pub answered : Answer → Verdict
 answered (is.Done p a m) = says 0 (p ∷ a ∷ m ∷ [])
 answered (is.Refused e) = trainVerdict e
 
+-- what merging asks: n pieces of u bytes, and their words, behind which there is place for what is known of the pairs
+pub record CanGrow (w : WordSet) (n u units : ℕ) (cs xs ys : List ℕ) : Type 0 where
+  pub held : Held n u xs ys
+  pub words : Words w cs
+  pub top : w .top ≤ unitsAt units
+  pub live : w .live ≤ units
+  pub units-few : units ≤ 268435456
+  pub room : cellsFor units 0 ≤ length cs
+  pub below : AllUnder n (corpus cs (w .starts) (w .count))
+  pub light : symbolsIn (corpus cs (w .starts) (w .count)) < 2 ^ 53
+  pub frequent : Weighed (corpus cs (w .starts) (w .count))
+
 -- ROWS 9 AND 10, and the merges, where n pieces of u bytes are the seeds
 unfoldable pub GrownOut : TrainError → WordSet → ℕ → ℕ → List ℕ → ℕ → ℕ → ℕ → List ℕ → List ℕ → List ℕ → List ℕ → List ℕ → List ℕ → List ℕ → List ℕ → List ℕ → Type 0
 GrownOut (why.VocabTooSmall q b) w n u prefix size least limit cs xs ys ms ss vs ws ns ts = (q ≡ size) × (b ≡ n) × (size < n)
@@ -69,6 +86,7 @@ pub record CanTrain (t : Task) (units : ℕ) (work : List ℕ) : Type 0 where
   pub seeds : CanSeed t units work
   pub size : t .vocabSize ≤ 16777216
   pub light : weighed (frequencies t) (wordUnits t) < 2 ^ 53
+  pub frequent : zeroFrequency (t .frequencyBytes) ≡ false
 
 -- the full answer at the front of each output room
 pub record Front (t : Task) (was is : Rooms) : Type 0 where

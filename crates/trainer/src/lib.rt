@@ -8,10 +8,10 @@ ghost use Prim.Native.Nat.{_≤_};
 ghost use lib.ListN.{length};
 ghost use Rattle.numbers.specs.Cells.{cells};
 ghost use Rattle.rule.specs.Outcome.{wiped};
-ghost use Rattle.recount.specs.Recount.{Ready};
-ghost use Rattle.trainer.specs.Train.{taskOf, roomsOf, GrownDone, CanTrain, TableDone, RoomsDone, TrainDone};
+ghost use Rattle.trainer.specs.Train.{taskOf, roomsOf, CanGrow, GrownDone, CanTrain, TableDone, RoomsDone, TrainDone};
 use encoding::Encoded;
 use error::TrainError;
+use pairs::Pairs;
 use table::Judged;
 use training::Trained;
 use word::WordSet;
@@ -31,6 +31,7 @@ pub enum Answer {
 fn grow(
     work: &mut [u8],
     set: WordSet,
+    units: usize,
     pieces: &mut [u8],
     piece_ends: &mut [u8],
     merges: &mut [u8],
@@ -42,7 +43,7 @@ fn grow(
     min_frequency: u64,
     max_piece_length: u64,
 ) -> Answer
-    requires { ⌜ Ready set count used (cells (now work)) (now pieces) (now «piece_ends») ⌝ }
+    requires { ⌜ CanGrow set count used units (cells (now work)) (now pieces) (now «piece_ends») ⌝ }
     requires { ⌜ «vocab_size» ≤ 16777216 ⌝ }
     ensures { λ r. ⌜ GrownDone r set count used (now (prefix .entry)) «vocab_size» «min_frequency» «max_piece_length»
         (cells (now (work .entry))) (now (pieces .entry)) (now («piece_ends» .entry)) (now (merges .entry)) (now (savings .entry))
@@ -54,9 +55,17 @@ fn grow(
             alphabet: count as u64,
         });
     }
+    let base = layout::units_at(units);
+    let cap = layout::index_for(units);
+    let p = Pairs {
+        base: base,
+        cap: cap,
+        most: 3 * units,
+    };
     let r = training::train_words(
         work,
         set,
+        p,
         pieces,
         piece_ends,
         merges,
@@ -132,6 +141,7 @@ fn train_table(
         Encoded::Done(count, used, set) => grow(
             work,
             set,
+            units,
             pieces,
             piece_ends,
             merges,

@@ -28,12 +28,8 @@ use Rattle.intern.specs.Intern.{Lacks}
 use Rattle.intern.specs.Many.{Exceed}
 use Rattle.intern.proofs.Rooms.{length-pieces, pieces-at}
 use Rattle.intern.proofs.Many.{length-bytes}
-use Rattle.word.specs.Layout.{corpus, Words}
-use Rattle.word.specs.declared.WordSet.{WordSet}
-use Rattle.merge.specs.Merging.{MergedAll}
-use Rattle.recount.specs.Recount.{ruled, Ready, Chosen}
-use Rattle.recount.specs.declared.Choice.{Choice}
-use Rattle.recount.proofs.Choices.{chosen-counted, chosen-below}
+use Rattle.engine.specs.Engine.{JoinDone}
+use Rattle.engine.specs.declared.Engine.{Engine}
 use Rattle.output.specs.Output.{More, PieceDone, MergeDone}
 use Rattle.output.specs.declared.Appended.{Appended}
 use Rattle.output.specs.declared.Appended.the-variants as appended
@@ -71,43 +67,25 @@ front-more k xs zs h =
     ∙ ap (λ (i : ℕ). part 0 k xs ++ part i (length zs) (laid xs k zs)) z
     ∙ ap (λ (l : List ℕ). part 0 k xs ++ l) (part-laid xs k zs h)
 
--- ONE TURN of the rule
-
-module _ (t : Task) (ps : List (List ℕ)) (es : List Entry) where
-  pub train-full : (j : ℕ) → j ≡ 0 → trainFrom t j ps es ≡ []
-  unfolding trainFrom
-  train-full j e = rw e
-
-  module _ (a b times : ℕ) (e : choose t ps es ≡ record { left = a; right = b; times = times }) where
-    pub train-stop : (j : ℕ) → times < max 1 (t .minFrequency) → trainFrom t j ps es ≡ []
-    unfolding trainFrom
-    train-stop zero h = refl
-    train-stop (suc j) h = rw (e, lt-ltb times (max 1 (t .minFrequency)) h)
-
-    pub train-on : (j : ℕ) → max 1 (t .minFrequency) ≤ times
-        → trainFrom t (suc j) ps es ≡ mergeOf t ps es a b ∷ trainFrom t j (ps ++ (joinedOf t ps a b ∷ [])) (rewriteAll a b (length ps) es)
-    unfolding trainFrom
-    train-on j h = rw (e, le-ltb times (max 1 (t .minFrequency)) h)
-
 -- ONE MERGE in the rooms
 
-module _ (w : WordSet) (n u k a b times : ℕ) (s cs xs ys ms ss ds vs ws ns ts : List ℕ) where
-  pub apply-full : (r : Appended) → PieceDone r n u s xs ys vs ws → r ≡ appended.NoRoom → ApplyDone applied.NoRoom w n u k a b times s cs xs ys ms ss ds vs ws ns ts
+module _ (g : Engine) (n u k a b times : ℕ) (s cs xs ys ms ss ds vs ws ns ts : List ℕ) where
+  pub apply-full : (r : Appended) → PieceDone r n u s xs ys vs ws → r ≡ appended.NoRoom → ApplyDone applied.NoRoom g n u k a b times s cs xs ys ms ss ds vs ws ns ts
   unfolding PieceDone ApplyDone
-  apply-full r d q = let h = rw q at d in inl (h .2)
+  apply-full r d q = let l = rw q at d in inl (l .2)
 
-  pub apply-out : (r : Bool) → MergeDone r k a b times ms ss ns ts → not r ≡ true → ApplyDone applied.NoRoom w n u k a b times s cs xs ys ms ss ds vs ws ns ts
+  pub apply-out : (r : Bool) → MergeDone r k a b times ms ss ns ts → not r ≡ true → ApplyDone applied.NoRoom g n u k a b times s cs xs ys ms ss ds vs ws ns ts
   unfolding MergeDone ApplyDone
-  apply-out r d q = let h = rw (not-true r q) at d in inr (h .2)
+  apply-out r d q = let l = rw (not-true r q) at d in inr (l .2)
 
   pub apply-done : (r : Appended) (u′ : ℕ) → PieceDone r n u s xs ys vs ws → r ≡ appended.At u′ → (m : Bool) → MergeDone m k a b times ms ss ns ts → not m ≡ false
-      → (w′ : WordSet) → MergedAll a b n w cs ds w′ → ApplyDone (applied.Done u′ w′) w n u k a b times s cs xs ys ms ss ds vs ws ns ts
+      → (h : Engine) → JoinDone g a b n cs ds h → ApplyDone (applied.Done u′ h) g n u k a b times s cs xs ys ms ss ds vs ws ns ts
   unfolding PieceDone ApplyDone
-  apply-done r u′ d q m e f w′ g = (rw q at d, rw (not-false m f) at e, g)
+  apply-done r u′ d q m e f h j = (rw q at d, rw (not-false m f) at e, j)
 
 -- THE LOOP. What stands in the rooms after k merges, where n pieces of u bytes were
-pub record Standing (n u : ℕ) (xs ys ms ss cs vs ws ns ts : List ℕ) (w : WordSet) (n′ u′ k : ℕ) : Type 0 where
-  pub ready : Ready w n′ u′ cs vs ws
+pub record Standing (n u : ℕ) (xs ys ms ss vs ws ns ts : List ℕ) (n′ u′ k : ℕ) : Type 0 where
+  pub held : Held n′ u′ vs ws
   pub number : n′ ≡ n + k
   pub grows : u ≤ u′
   pub bytes : Kept u u′ xs vs
@@ -123,10 +101,10 @@ pub record Toward (ps : List (List ℕ)) (all todo : List Merge) (qs : List (Lis
   pub savings-are : part 0 (k * 8) ts ++ savingBytes todo ≡ savingBytes all
   pub count : k + length todo ≡ length all
 
-pub standing-start : (n u : ℕ) (xs ys ms ss cs : List ℕ) (w : WordSet) → Ready w n u cs xs ys → Standing n u xs ys ms ss cs xs ys ms ss w n u 0
-standing-start n u xs ys ms ss cs w r =
+pub standing-start : (n u : ℕ) (xs ys ms ss : List ℕ) → Held n u xs ys → Standing n u xs ys ms ss xs ys ms ss n u 0
+standing-start n u xs ys ms ss r =
     record {
-      ready = r;
+      held = r;
       number = omega arith;
       grows = omega arith;
       bytes = kept-none u u xs;
@@ -146,14 +124,14 @@ toward-start ps all ms ss =
     }
 
 -- AT THE END
-module _ (n u : ℕ) (xs ys ms ss cs vs ws ns ts : List ℕ) (w : WordSet) (n′ u′ k : ℕ) (σ : Standing n u xs ys ms ss cs vs ws ns ts w n′ u′ k)
+module _ (n u : ℕ) (xs ys ms ss vs ws ns ts : List ℕ) (n′ u′ k : ℕ) (σ : Standing n u xs ys ms ss vs ws ns ts n′ u′ k)
     (all todo : List Merge) (τ : Toward (pieces xs ys n) all todo (pieces vs ws n′) ns ts k) where
   pub toward-end : todo ≡ [] → Written all n u xs ys ms ss vs ws ns ts n′ u′ k
   unfolding mergeBytes savingBytes spellAll flatMap
   toward-end e =
       let l = ap length e in
       record {
-        held = σ .ready .held;
+        held = σ .held;
         are = sym (append-nil (pieces vs ws n′)) ∙ ap (withMerges (pieces vs ws n′)) (sym e) ∙ τ .pieces-are;
         least = omega (arith, σ .number);
         grows = σ .grows;
@@ -180,7 +158,7 @@ module _ (n u : ℕ) (xs ys ms ss cs vs ws ns ts : List ℕ) (w : WordSet) (n′
         long = length-append (pieces vs ws n′) (m .spelled ∷ map (λ m. m .spelled) rest) ∙ ap (λ (j : ℕ). j + suc (length (map (λ m. m .spelled) rest))) (length-pieces vs ws n′)
 
         wide : u′ + length (m .spelled) ≤ length (pieceBytes (pieces vs ws n′ ++ (m .spelled ∷ map (λ m. m .spelled) rest)))
-        wide = rw (bytes-append (pieces vs ws n′) (m .spelled ∷ map (λ m. m .spelled) rest)) (simp length-append (omega (arith, length-bytes n′ u′ vs ws (σ .ready .held), bytes-cons (m .spelled) (map (λ m. m .spelled) rest))))
+        wide = rw (bytes-append (pieces vs ws n′) (m .spelled ∷ map (λ m. m .spelled) rest)) (simp length-append (omega (arith, length-bytes n′ u′ vs ws (σ .held), bytes-cons (m .spelled) (map (λ m. m .spelled) rest))))
 
         go : (length ws < (n′ + 1) * 4) ⊎ ((length vs < u′ + length (m .spelled)) ⊎ (4294967295 < u′ + length (m .spelled)))
             → (length ys < length (pieces vs ws n′ ++ (m .spelled ∷ map (λ m. m .spelled) rest)) * 4)
@@ -230,24 +208,16 @@ module _ (n u : ℕ) (xs ys ms ss cs vs ws ns ts : List ℕ) (w : WordSet) (n′
           }
 
 -- the rooms behind it
-module _ (n u : ℕ) (xs ys ms ss cs vs ws ns ts : List ℕ) (w : WordSet) (n′ u′ k : ℕ) (σ : Standing n u xs ys ms ss cs vs ws ns ts w n′ u′ k)
-    (a b times : ℕ) (s : List ℕ) (vs₂ ws₂ : List ℕ) (u₂ : ℕ) (p : More n′ u′ s vs ws vs₂ ws₂ u₂) (ns₂ ts₂ : List ℕ) (g : MergeDone true k a b times ns ts ns₂ ts₂)
-    (ds : List ℕ) (w₂ : WordSet) (d : MergedAll a b n′ w cs ds w₂) where
-  pub standing-next : Standing n u xs ys ms ss ds vs₂ ws₂ ns₂ ts₂ w₂ (n′ + 1) u₂ (k + 1)
+module _ (n u : ℕ) (xs ys ms ss vs ws ns ts : List ℕ) (n′ u′ k : ℕ) (σ : Standing n u xs ys ms ss vs ws ns ts n′ u′ k)
+    (a b times : ℕ) (s : List ℕ) (vs₂ ws₂ : List ℕ) (u₂ : ℕ) (p : More n′ u′ s vs ws vs₂ ws₂ u₂) (ns₂ ts₂ : List ℕ) (g : MergeDone true k a b times ns ts ns₂ ts₂) where
+  pub standing-next : Standing n u xs ys ms ss vs₂ ws₂ ns₂ ts₂ (n′ + 1) u₂ (k + 1)
   unfolding MergeDone
   standing-next =
-      let z : suc n′ ≡ n′ + 1 = omega arith in
-      let r = σ .ready in
       let x = spell 4 a ++ spell 4 b in
       let lx : length x ≡ 8 = length-append (spell 4 a) (spell 4 b) ∙ rw (length-spell 4 a, length-spell 4 b) in
       let ly : length (spell 8 times) ≡ 8 = length-spell 8 times in
       record {
-        ready = record {
-          words = d .set;
-          light = rw (d .view) (omega (arith, symbols-rewrite a b n′ (corpus cs (w .starts) (w .count)), r .light));
-          below = rw (d .view, ← z) (below-all n′ a b (corpus cs (w .starts) (w .count)) (r .below));
-          held = p .held;
-        };
+        held = p .held;
         number = omega (arith, σ .number);
         grows = omega (arith, σ .grows, p .long);
         bytes = kept-then (kept-wide {lo = u} {hi = u′} u u₂ (omega arith) (omega (arith, p .long)) (σ .bytes)) (kept-wide {lo = u′} {hi = u₂} u u₂ (σ .grows) (omega arith) (p .bytes));

@@ -15,18 +15,19 @@ use Rattle.intern.specs.Intern.{Lacks}
 use Rattle.intern.specs.Many.{Exceed}
 use Rattle.word.specs.Layout.{corpus}
 use Rattle.word.specs.declared.WordSet.{WordSet}
-use Rattle.merge.specs.Merging.{MergedAll}
+use Rattle.engine.specs.Engine.{JoinDone}
+use Rattle.engine.specs.declared.Engine.{Engine}
 use Rattle.output.specs.Output.{More, MergeDone}
 use Rattle.training.specs.declared.Applied.{Applied}
 use Rattle.training.specs.declared.Applied.the-variants as applied
 use Rattle.training.specs.declared.Trained.{Trained}
 use Rattle.training.specs.declared.Trained.the-variants as trained
 
--- ONE MERGE: the piece s behind n others, the k-th merge and its saving, and (a,b) rewritten to n in every word; or which room has no place
-unfoldable pub ApplyDone : Applied → WordSet → ℕ → ℕ → ℕ → ℕ → ℕ → ℕ → List ℕ → List ℕ → List ℕ → List ℕ → List ℕ → List ℕ → List ℕ → List ℕ → List ℕ → List ℕ → List ℕ → Type 0
-ApplyDone (applied.Done u′ w′) w n u k a b times s cs xs ys ms ss ds vs ws ns ts =
-    More n u s xs ys vs ws u′ × MergeDone true k a b times ms ss ns ts × MergedAll a b n w cs ds w′
-ApplyDone applied.NoRoom w n u k a b times s cs xs ys ms ss ds vs ws ns ts = Lacks n u s xs ys ⊎ ((length ms < k * 8 + 8) ⊎ (length ss < k * 8 + 8))
+-- ONE MERGE: the piece s behind n others, the k-th merge and its saving, and (a,b) rewritten to n in the words; or which room has no place
+unfoldable pub ApplyDone : Applied → Engine → ℕ → ℕ → ℕ → ℕ → ℕ → ℕ → List ℕ → List ℕ → List ℕ → List ℕ → List ℕ → List ℕ → List ℕ → List ℕ → List ℕ → List ℕ → List ℕ → Type 0
+ApplyDone (applied.Done u′ h) g n u k a b times s cs xs ys ms ss ds vs ws ns ts =
+    More n u s xs ys vs ws u′ × MergeDone true k a b times ms ss ns ts × JoinDone g a b n cs ds h
+ApplyDone applied.NoRoom g n u k a b times s cs xs ys ms ss ds vs ws ns ts = Lacks n u s xs ys ⊎ ((length ms < k * 8 + 8) ⊎ (length ss < k * 8 + 8))
 
 -- a task with these settings: training asks a task for no more
 pub record Settings (t : Task) (prefix : List ℕ) (least limit : ℕ) : Type 0 where

@@ -6,9 +6,13 @@ ghost use lib.ListN.{length};
 ghost use Rattle.numbers.specs.Cells.{cells};
 ghost use Rattle.rule.specs.Layout.{pieceAt};
 ghost use Rattle.rule.specs.Spelling.{joined};
-ghost use Rattle.recount.specs.Recount.{Ready};
+ghost use Rattle.intern.specs.Pieces.{Held};
+ghost use Rattle.engine.specs.Engine.{CanStart, CanJoin};
 ghost use Rattle.training.specs.Training.{ApplyDone, TrainedDone};
+use choosing::Next;
+use engine::Engine;
 use output::Appended;
+use pairs::Pairs;
 use word::WordSet;
 
 // The least count that is merged: a minimum of 0 acts as 1.
@@ -21,16 +25,16 @@ fn floor(least: u64) -> u64
     least
 }
 
-// Where the pieces end and the words are now; or that the merge has no place in an output room.
+// Where the pieces end and the engine is now; or that the merge has no place in an output room.
 pub enum Applied {
-    Done(usize, WordSet),
+    Done(usize, Engine),
     NoRoom,
 }
 
-// Makes (left,right) the piece with the next number, in the output rooms and in every word.
+// Makes (left,right) the piece with the next number, in the output rooms and in the words.
 fn apply(
     work: &mut [u8],
-    w: WordSet,
+    g: Engine,
     pieces: &mut [u8],
     ends: &mut [u8],
     merges: &mut [u8],
@@ -43,9 +47,9 @@ fn apply(
     times: u64,
     prefix: &[u8],
 ) -> Applied
-    requires { ⌜ Ready w count used (cells (now work)) (now pieces) (now ends) ⌝ }
-    requires { ⌜ (left < count) × (right < count) × (count < 4294967296) ⌝ }
-    ensures { λ r. ⌜ ApplyDone r w count used k left right times (joined (now (prefix .entry)) (pieceAt (now (pieces .entry)) (now (ends .entry)) left) (pieceAt (now (pieces .entry)) (now (ends .entry)) right))
+    requires { ⌜ Held count used (now pieces) (now ends) ⌝ }
+    requires { ⌜ CanJoin g left right count (cells (now work)) ⌝ }
+    ensures { λ r. ⌜ ApplyDone r g count used k left right times (joined (now (prefix .entry)) (pieceAt (now (pieces .entry)) (now (ends .entry)) left) (pieceAt (now (pieces .entry)) (now (ends .entry)) right))
         (cells (now (work .entry))) (now (pieces .entry)) (now (ends .entry)) (now (merges .entry)) (now (savings .entry))
         (cells (now (work .exit))) (now (pieces .exit)) (now (ends .exit)) (now (merges .exit)) (now (savings .exit)) ⌝ }
 {
@@ -56,8 +60,8 @@ fn apply(
             if !output::append_merge(merges, savings, k, left, right, times) {
                 return Applied::NoRoom;
             }
-            let v = merge::merge_all(work, w, left, right, count as u32);
-            Applied::Done(end, v)
+            let h = engine::join(work, g, left, right, count as u32);
+            Applied::Done(end, h)
         }
     }
 }
@@ -69,9 +73,11 @@ pub enum Trained {
 }
 
 // Trains up to `size` pieces, and no pair that counts less than `least` or is longer than `limit`.
+// What is known of the pairs is kept at p.
 pub fn train_words(
     work: &mut [u8],
     set: WordSet,
+    p: Pairs,
     pieces: &mut [u8],
     ends: &mut [u8],
     merges: &mut [u8],
@@ -83,46 +89,51 @@ pub fn train_words(
     least: u64,
     limit: u64,
 ) -> Trained
-    requires { ⌜ Ready set count used (cells (now work)) (now pieces) (now ends) ⌝ }
+    requires { ⌜ CanStart set p count (cells (now work)) ⌝ }
+    requires { ⌜ Held count used (now pieces) (now ends) ⌝ }
     requires { ⌜ (count ≤ size) × (size ≤ 16777216) ⌝ }
     ensures { λ r. ⌜ TrainedDone r set count used (now (prefix .entry)) size least limit
         (cells (now (work .entry))) (now (pieces .entry)) (now (ends .entry)) (now (merges .entry)) (now (savings .entry))
         (now (pieces .exit)) (now (ends .exit)) (now (merges .exit)) (now (savings .exit)) ⌝ }
 {
     let enough = floor(least);
-    let mut w = set;
+    let mut g = engine::start(work, set, p, count as u32);
     let mut n = count;
     let mut u = used;
     let mut k = 0;
     while (n as u64) < size {
-        let c = recount::next_merge(work, w, pieces, ends, n, u, prefix, limit);
-        if c.times < enough {
-            return Trained::Done(n, u, k);
-        }
-        let a = apply(
-            work,
-            w,
-            pieces,
-            ends,
-            merges,
-            savings,
-            n,
-            u,
-            k,
-            c.left,
-            c.right,
-            c.times,
-            prefix,
-        );
-        match a {
-            Applied::Done(end, v) => {
-                w = v;
-                u = end;
-                n += 1;
-                k += 1;
+        let c = choosing::next_merge(work, g, pieces, ends, n, u, prefix, limit, enough);
+        match c {
+            Next::Nothing => {
+                return Trained::Done(n, u, k);
             }
-            Applied::NoRoom => {
-                return Trained::NoRoom;
+            Next::Pair(h, left, right, times) => {
+                let a = apply(
+                    work,
+                    h,
+                    pieces,
+                    ends,
+                    merges,
+                    savings,
+                    n,
+                    u,
+                    k,
+                    left,
+                    right,
+                    times,
+                    prefix,
+                );
+                match a {
+                    Applied::Done(end, d) => {
+                        g = d;
+                        u = end;
+                        n += 1;
+                        k += 1;
+                    }
+                    Applied::NoRoom => {
+                        return Trained::NoRoom;
+                    }
+                }
             }
         }
     }

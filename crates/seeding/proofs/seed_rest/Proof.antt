@@ -50,7 +50,7 @@ same-length-6 : tie.Need-same-length-6
 same-length-6 c = search laws
 
 returns-2 : tie.Need-returns-2
-returns-2 c = rest-done _ _ _ _ _ _ _ _ _ _ _ _ _ _ _ _ (c .before .before .before .before .before .before .before .before .before .before .before .before .before .before .before .before .before .before .before .before .before .before .before .before .before .before .before .before .before .before .before .before .before .before .before .pre) _ _ _ _ (c .before .before .before .before .before .before .before .before .before .before .before .before .before .before .before .before .before .before .before .before .before .seed-alphabet .ensures) _ _ (c .before .before .before .before .before .before .before .before .before .before .before .before .before .r .given .1) _ _ _ _ _ (c .before .before .before .before .before .before .seed-words .ensures)
+returns-2 c = rest-done _ _ _ _ _ _ _ _ _ _ _ _ _ _ _ _ (c .before .before .before .before .before .before .before .before .before .before .before .before .before .before .before .before .before .before .before .before .before .before .before .before .before .before .before .before .before .before .before .before .before .before .before .pre) _ _ _ _ (c .before .before .before .before .before .before .before .before .before .before .before .before .before .before .before .before .before .before .before .before .before .seed-alphabet .ensures) _ _ (c .before .before .before .before .before .before .before .before .before .before .before .before .before .r .given .1) _ _ (c .before .before .before .before .before .before .before .before .before .before .before .words-at .ensures) (c .before .before .before .before .before .before .before .before .before .before .empty .ensures) _ _ _ _ (c .before .before .before .before .before .before .seed-words .ensures)
 
 pub seed-rest-spec : {M : Type 1} → statement M
 seed-rest-spec =

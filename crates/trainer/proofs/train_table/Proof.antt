@@ -1,6 +1,7 @@
 -- `trainer::train_table` meets its contract: the seeds, then what grows of them.
 use borrow.Author.Needs.{needs}
 use native.Mathlib.Omega.{arith}
+use mathlib.Core.Path.{refl}
 use Rattle.units.proofs.Gathering.{bytes-known}
 use Rattle.trainer.proofs.Table.{can-seed, table-out, table-ready, table-done}
 use Rattle.trainer.proofs.train_table.Statement.{statement}
@@ -18,7 +19,7 @@ enum-known-s : tie.Need-enum-known-s
 enum-known-s c = search laws
 
 grow-requires : tie.Need-grow-requires
-grow-requires c κs = (table-ready _ _ _ _ _ _ _ _ _ _ _ _ _ _ (c .before .before .before .before .before .before .before .before .before .before .before .before .before .before .before .before .before .before .before .before .before .before .before .before .before .before .before .before .before .before .args .merges .now) (c .before .before .before .before .before .before .before .before .before .before .before .before .before .before .before .before .before .before .before .before .before .before .before .before .before .before .before .before .before .before .args .savings .now) _ _ _ _ _ (c .before .before .before .before .before .before .before .before .before .before .before .before .before .before .seed .ensures) _ _ _ (c .before .before .before .before .before .before .s .given .1) (c .before .before .before .before .before .before .before .before .before .before .before .before .before .before .before .before .before .before .before .before .before .before .before .before .before .before .before .before .before .before .pre), c .before .before .before .before .before .before .before .before .before .before .before .before .before .before .before .before .before .before .before .before .before .before .before .before .before .before .before .before .before .before .pre .size)
+grow-requires c κs = (table-ready _ _ _ _ _ _ _ _ _ _ _ _ _ _ (c .before .before .before .before .before .before .before .before .before .before .before .before .before .before .before .before .before .before .before .before .before .before .before .before .before .before .before .before .before .before .args .merges .now) (c .before .before .before .before .before .before .before .before .before .before .before .before .before .before .before .before .before .before .before .before .before .before .before .before .before .before .before .before .before .before .args .savings .now) _ _ _ _ _ (c .before .before .before .before .before .before .before .before .before .before .before .before .before .before .seed .ensures) _ _ _ (c .before .before .before .before .before .before .s .given .1) (c .before .before .before .before .before .before .before .before .before .before .before .before .before .before .before .before .before .before .before .before .before .before .before .before .before .before .before .before .before .before .pre) _ refl (omega (arith, c .before .before .before .before .before .before .before .before .before .before .before .before .before .before .seed .kept)), c .before .before .before .before .before .before .before .before .before .before .before .before .before .before .before .before .before .before .before .before .before .before .before .before .before .before .before .before .before .before .pre .size)
 
 same-length : tie.Need-same-length
 same-length c = search laws

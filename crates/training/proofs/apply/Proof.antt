@@ -33,11 +33,11 @@ same-length-4 c = search laws
 returns : tie.Need-returns
 returns c = apply-out _ _ _ _ _ _ _ _ _ _ _ _ _ _ _ _ _ _ _ (c .before .before .before .before .before .append-merge .ensures) (c .if1 .taken)
 
-cast-merge-all : tie.Need-cast-merge-all
-cast-merge-all c = search laws
+cast-join : tie.Need-cast-join
+cast-join c = search laws
 
-merge-all-requires : tie.Need-merge-all-requires
-merge-all-requires c κs = search laws
+join-requires : tie.Need-join-requires
+join-requires c κs = search laws
 
 same-length-5 : tie.Need-same-length-5
 same-length-5 c = search laws
@@ -64,7 +64,7 @@ same-length-11 : tie.Need-same-length-11
 same-length-11 c = search laws
 
 returns-3 : tie.Need-returns-3
-returns-3 c = apply-done _ _ _ _ _ _ _ _ _ _ _ _ _ _ _ _ _ _ _ _ (c .before .before .before .before .before .before .before .before .before .before .before .before .before .before .before .before .before .before .before .append-piece .ensures) (c .before .before .before .before .before .before .before .before .before .before .before .before .before .r .given .1) _ (c .before .before .before .before .before .before .before .before .before .append-merge .ensures) (c .before .before .before .before .if1 .left) _ (c .before .before .merge-all .ensures)
+returns-3 c = apply-done _ _ _ _ _ _ _ _ _ _ _ _ _ _ _ _ _ _ _ _ (c .before .before .before .before .before .before .before .before .before .before .before .before .before .before .before .before .before .before .before .append-piece .ensures) (c .before .before .before .before .before .before .before .before .before .before .before .before .before .r .given .1) _ (c .before .before .before .before .before .before .before .before .before .append-merge .ensures) (c .before .before .before .before .if1 .left) _ (c .before .before .join .ensures)
 
 pub apply-spec : {M : Type 1} → statement M
 apply-spec =
@@ -79,8 +79,8 @@ apply-spec =
     same-length-3
     same-length-4
     returns
-    cast-merge-all
-    merge-all-requires
+    cast-join
+    join-requires
     same-length-5
     same-length-6
     returns-2

@@ -1,0 +1,2 @@
+-- The definitions of `arena`.
+pub mod Arena

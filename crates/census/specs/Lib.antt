@@ -1,0 +1,2 @@
+-- The definitions of `census`.
+pub mod Census

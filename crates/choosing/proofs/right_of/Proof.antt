@@ -1,0 +1,19 @@
+-- `choosing::right_of` meets its contract.
+use borrow.Author.Needs.{needs}
+use Rattle.choosing.proofs.Small.{pair-pos, right-is}
+use Rattle.choosing.proofs.right_of.Statement.{statement}
+use Rattle.choosing.proofs.right_of.Tie as tie
+
+ruleset laws = (pair-pos, right-is, needs)
+
+sub-result : tie.Need-sub-result
+sub-result c = search laws
+
+cast-result : tie.Need-cast-result
+cast-result c = search needs
+
+returns : tie.Need-returns
+returns c = search laws
+
+pub right-of-spec : {M : Type 1} → statement M
+right-of-spec = tie.close (tie.spec sub-result cast-result returns)

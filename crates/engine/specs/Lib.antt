@@ -1,0 +1,2 @@
+-- The definitions of `engine`.
+pub mod Engine

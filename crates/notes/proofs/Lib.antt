@@ -1,0 +1,6 @@
+-- The laws of `notes`.
+pub mod Reading
+pub mod Credits
+pub mod Steps
+pub mod Adding
+pub mod Moving

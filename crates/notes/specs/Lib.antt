@@ -1,0 +1,2 @@
+-- The definitions of `notes`.
+pub mod Notes

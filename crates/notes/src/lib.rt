@@ -1,0 +1,175 @@
+// A pair's list of words: `WordList` and `PairState` of the original. Up to four words stand in the pair's record; a longer list
+// stands in a run of cells, and moves to one of twice the capacity when that is full.
+ghost use mathlib.Core.Path.{_≡_};
+ghost use Prim.Native.Nat.{_<_};
+ghost use lib.ListN.{length};
+ghost use Rattle.runs.specs.Parts.{nth};
+ghost use Rattle.numbers.specs.Cells.{cells};
+ghost use Rattle.states.specs.State.{lastIs};
+ghost use Rattle.pairs.specs.View.{state};
+ghost use Rattle.pairs.specs.Pairs.{Has};
+ghost use Rattle.notes.specs.Notes.{kindOf, lengthOf, Loaded, withNote, withMore, CanNote, Noted, AddShort, AddLong, Ready, CanMove, MovedList};
+use pairs::Pairs;
+
+// Which kind of list, and how many words. An enum holds no array: the short words stand beside it, the long list at the place.
+pub enum WordList {
+    Short(u64),
+    Spilled(u64, u64),
+}
+
+// Everything known of one pair.
+pub struct PairState {
+    pub count: u64,
+    pub marks: u8,
+    pub words: WordList,
+    pub near: [u64; 4],
+}
+
+// How many words a list has.
+pub fn len(words: WordList) -> u64
+    ensures { λ r. ⌜ r ≡ lengthOf words ⌝ }
+{
+    match words {
+        WordList::Short(n) => n,
+        WordList::Spilled(_, n) => n,
+    }
+}
+
+// Which kind of list n words are.
+fn kind(n: u64, place: u64) -> WordList
+    ensures { λ r. ⌜ r ≡ kindOf n place ⌝ }
+{
+    if n <= 4 {
+        return WordList::Short(n);
+    }
+    WordList::Spilled(place, n)
+}
+
+// The state of a pair that has the record r.
+pub fn load(room: &[u8], p: Pairs, key: u64, r: usize) -> PairState
+    requires { ⌜ Has p key r (cells (now room)) ⌝ }
+    ensures { λ s. ⌜ Loaded p key (cells (now (room .entry))) s ⌝ }
+{
+    let at = p.base + 2 * p.cap;
+    let n = arena::get_field(room, at, p.most, r, 3);
+    let a = arena::get_field(room, at, p.most, r, 4);
+    let b = arena::get_field(room, at, p.most, r, 5);
+    let c = arena::get_field(room, at, p.most, r, 6);
+    let d = arena::get_field(room, at, p.most, r, 7);
+    let count = pairs::count(room, p, key, r);
+    let marks = pairs::marks(room, p, key, r);
+    let words = kind(n, a);
+    PairState {
+        count: count,
+        marks: marks,
+        words: words,
+        near: [a, b, c, d],
+    }
+}
+
+// The j-th word of its list.
+pub fn word_at(room: &[u8], p: Pairs, key: u64, r: usize, j: usize) -> u64
+    requires { ⌜ (Has p key r (cells (now room))) × (j < length (state p (cells (now room)) key .words)) ⌝ }
+    ensures { λ w. ⌜ w ≡ nth (state p (cells (now (room .entry))) key .words) j ⌝ }
+{
+    let at = p.base + 2 * p.cap;
+    let n = arena::get_field(room, at, p.most, r, 3);
+    if n <= 4 {
+        return numbers::cell(room, at + 3 + r * 8 + 4 + j);
+    }
+    let place = arena::get_field(room, at, p.most, r, 4) as usize;
+    numbers::cell(room, at + 3 + p.most * 8 + 2 + place + j)
+}
+
+// How many words its list has.
+pub fn words_len(room: &[u8], p: Pairs, key: u64, r: usize) -> u64
+    requires { ⌜ Has p key r (cells (now room)) ⌝ }
+    ensures { λ n. ⌜ n ≡ length (state p (cells (now (room .entry))) key .words) ⌝ }
+{
+    let s = load(room, p, key, r);
+    let words = s.words;
+    len(words)
+}
+
+// Whether the word noted last is w.
+fn seen(room: &[u8], p: Pairs, key: u64, r: usize, w: u64) -> bool
+    requires { ⌜ Has p key r (cells (now room)) ⌝ }
+    ensures { λ b. ⌜ b ≡ lastIs w (state p (cells (now (room .entry))) key .words) ⌝ }
+{
+    let n = arena::get_field(room, p.base + 2 * p.cap, p.most, r, 3) as usize;
+    if n == 0 {
+        return false;
+    }
+    let x = word_at(room, p, key, r, n - 1);
+    x == w
+}
+
+// Puts a word behind the n < 4 that stand in the record: first it stands there, then it counts.
+fn add_short(room: &mut [u8], p: Pairs, key: u64, r: usize, n: usize, w: u64)
+    requires { ⌜ AddShort p key r n (cells (now room)) ⌝ }
+    ensures { λ _. ⌜ Noted p key r (withMore w (state p (cells (now (room .entry))) key)) (cells (now (room .entry))) (cells (now (room .exit))) ⌝ }
+{
+    let at = p.base + 2 * p.cap;
+    arena::put_field(room, at, p.most, r, 4 + n, w);
+    let more = (n + 1) as u64;
+    arena::put_field(room, at, p.most, r, 3, more);
+}
+
+// Moves the n words from the cell `from` on into a new run of `size` cells, which the record has from now on.
+fn move_list(room: &mut [u8], p: Pairs, key: u64, r: usize, from: usize, n: usize, size: usize)
+    requires { ⌜ CanMove p key r from n size (cells (now room)) ⌝ }
+    ensures { λ _. ⌜ MovedList p r from n size (cells (now (room .entry))) (cells (now (room .exit))) ⌝ }
+{
+    let at = p.base + 2 * p.cap;
+    let lists = at + 3 + p.most * 8;
+    let top = numbers::cell(room, lists) as usize;
+    numbers::copy_cells(room, lists + 2 + top, from, n);
+    numbers::put_cell(room, lists, (top + size) as u64);
+    arena::put_field(room, at, p.most, r, 4, top as u64);
+    arena::put_field(room, at, p.most, r, 5, size as u64);
+}
+
+// Sees to it that the n words stand in a run that has space for one more.
+fn widen(room: &mut [u8], p: Pairs, key: u64, r: usize, n: usize)
+    requires { ⌜ AddLong p key r n (cells (now room)) ⌝ }
+    ensures { λ _. ⌜ Ready p key r n (cells (now (room .entry))) (cells (now (room .exit))) ⌝ }
+{
+    let at = p.base + 2 * p.cap;
+    if n == 4 {
+        move_list(room, p, key, r, at + 3 + r * 8 + 4, 4, 8);
+        return;
+    }
+    let size = arena::get_field(room, at, p.most, r, 5) as usize;
+    if n == size {
+        let place = arena::get_field(room, at, p.most, r, 4) as usize;
+        move_list(room, p, key, r, at + 3 + p.most * 8 + 2 + place, n, 2 * n);
+    }
+}
+
+// Puts a word behind the n >= 4 that stand in a run: first it stands there, then it counts.
+fn add_long(room: &mut [u8], p: Pairs, key: u64, r: usize, n: usize, w: u64)
+    requires { ⌜ AddLong p key r n (cells (now room)) ⌝ }
+    ensures { λ _. ⌜ Noted p key r (withMore w (state p (cells (now (room .entry))) key)) (cells (now (room .entry))) (cells (now (room .exit))) ⌝ }
+{
+    widen(room, p, key, r, n);
+    let at = p.base + 2 * p.cap;
+    let place = arena::get_field(room, at, p.most, r, 4) as usize;
+    numbers::put_cell(room, at + 3 + p.most * 8 + 2 + place + n, w);
+    arena::put_field(room, at, p.most, r, 3, (n + 1) as u64);
+}
+
+// Notes the word w in the list of a pair, unless it was noted last.
+pub fn note(room: &mut [u8], p: Pairs, key: u64, r: usize, w: u64)
+    requires { ⌜ CanNote p key r (cells (now room)) ⌝ }
+    ensures { λ _. ⌜ Noted p key r (withNote w (state p (cells (now (room .entry))) key)) (cells (now (room .entry))) (cells (now (room .exit))) ⌝ }
+{
+    if seen(room, p, key, r, w) {
+        return;
+    }
+    let n = arena::get_field(room, p.base + 2 * p.cap, p.most, r, 3) as usize;
+    if n < 4 {
+        add_short(room, p, key, r, n, w);
+    } else {
+        add_long(room, p, key, r, n, w);
+    }
+}

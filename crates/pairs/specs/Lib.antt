@@ -1,0 +1,3 @@
+-- The definitions of `pairs`.
+pub mod View
+pub mod Pairs

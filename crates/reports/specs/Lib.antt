@@ -1,0 +1,2 @@
+-- The definitions of `reports`.
+pub mod Reports

@@ -1,0 +1,3 @@
+-- The laws of `settling`.
+pub mod One
+pub mod Loop

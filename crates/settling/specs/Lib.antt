@@ -1,0 +1,2 @@
+-- The definitions of `settling`.
+pub mod Settling

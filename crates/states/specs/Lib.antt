@@ -1,0 +1,3 @@
+-- The definitions of `states`.
+pub mod State
+pub mod Tracking

@@ -1,0 +1,2 @@
+-- The definitions of `waiting`.
+pub mod Waiting
