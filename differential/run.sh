@@ -14,4 +14,5 @@ fi
 SPLINTR_SRC=$(cd "$SPLINTR_SRC" && pwd)
 export SPLINTR_SRC
 cargo build --release --offline --locked --quiet --manifest-path differential/Cargo.toml --target-dir target/cargo
-exec target/cargo/release/compare "$@"
+# shellcheck disable=SC2086
+exec $RUN target/cargo/${CARGO_BUILD_TARGET:+$CARGO_BUILD_TARGET/}release/compare "$@"

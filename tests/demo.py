@@ -271,13 +271,13 @@ def write_files(folder):
 
 def run(program, text):
     """Status and output, with the text lent as a whole."""
-    done = subprocess.run([program], input=text, stdout=subprocess.PIPE)
+    done = subprocess.run(program, input=text, stdout=subprocess.PIPE)
     return done.returncode, done.stdout
 
 
 def run_slowly(program, text):
     """The same, with the text written in parts, so that no read gets all of it."""
-    with subprocess.Popen([program], stdin=subprocess.PIPE, stdout=subprocess.PIPE, bufsize=0) as p:
+    with subprocess.Popen(program, stdin=subprocess.PIPE, stdout=subprocess.PIPE, bufsize=0) as p:
         for i in range(0, len(text), 5):
             p.stdin.write(text[i:i + 5])
             time.sleep(0.02)
@@ -292,7 +292,7 @@ def main():
     wrong = tried = 0
     slow = [("in parts", text, expected, run_slowly) for _, text, expected in CASES[:1]]
     for name, text, expected, how in slow + [(*case, run) for case in all_cases()]:
-        status, out = how(sys.argv[1], text)
+        status, out = how(sys.argv[1:], text)
         tried += 1
         if status != 0 or out != expected:
             wrong += 1

@@ -7,4 +7,5 @@ if [ ! -x target/bin/demo ]; then
     exit 3
 fi
 command -v python3 > /dev/null || { echo "no python3: the other texts not run" >&2; exit 3; }
-exec python3 tests/demo.py target/bin/demo
+# shellcheck disable=SC2086
+exec python3 tests/demo.py $RUN target/bin/demo

@@ -2,6 +2,7 @@
 # Compiles each example in the comments of include/rindovesh.h against the library and runs it; then
 # the header alone, as C and as C++. An example is the indented text behind a line that begins with
 # "Example". The library is libdoor.a (`rt staticlib door`), in RINDOVESH_LIB_DIR or target/staticlib.
+# CC compiles for x86-64, and RUN stands before a program that is run (.ci/run).
 set -e
 cd "$(dirname "$0")/.."
 library=${RINDOVESH_LIB_DIR:-target/staticlib}/libdoor.a
@@ -15,8 +16,9 @@ awk -v out="$out" '
 ' include/rindovesh.h
 count=0
 for example in "$out"/example*.c; do
-    gcc -std=c99 -Wall -Wextra -Wpedantic -Werror -Iinclude "$example" "$library" -o "$out/example"
-    "$out/example"
+    "${CC:-gcc}" -std=c99 -Wall -Wextra -Wpedantic -Werror -Iinclude "$example" "$library" -o "$out/example"
+    # shellcheck disable=SC2086
+    $RUN "$out/example"
     count=$((count + 1))
 done
 [ "$count" -eq "$(grep -c '^ \* Example' include/rindovesh.h)" ]

@@ -4,6 +4,7 @@
 # Exit status 3: there is no valgrind, or no original to compare with.
 set -e
 cd "$(dirname "$0")/.."
+[ -z "$RUN" ] || { echo "no valgrind under an emulator: memory not looked at"; exit 3; }
 command -v valgrind > /dev/null || { echo "no valgrind: memory not looked at"; exit 3; }
 # builds the program, and sees it run right without valgrind
 differential/run.sh --only examples

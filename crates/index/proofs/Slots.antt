@@ -1,13 +1,14 @@
 -- The laws of `home`, `slot` and `value`, and of the loop that looks a key up. Assumes nothing.
 use mathlib.Core.Path.{_≡_, refl, sym, ap, _∙_}
 use mathlib.Core.List.{List}
-use Prim.Native.Nat.{ℕ, suc, _+_, _-_, _*_, _/_, _^_, _<_, _≤_}
+use Prim.Native.Nat.{ℕ, suc, _+_, _-_, _*_, _/_, _%_, _^_, _<_, _≤_}
 use native.Mathlib.Omega.{arith}
+use borrow.Author.Tests.{lt-ltb, le-ltb}
 use native.Mathlib.Nat.{mul-le-mul, mul-lt-mul-of-pos-right}
 use Rattle.runs.specs.Parts.{nth}
-use Rattle.runs.proofs.Parts.{same-or-not}
+use Rattle.runs.proofs.Parts.{same-or-not, below-or-not}
 use Rattle.index.specs.Probe.{after, probe}
-use Rattle.index.specs.Index.{keyAt, valueAt, mix, home, slot, valueOf, value, vacant, Index}
+use Rattle.index.specs.Index.{keyAt, valueAt, mix, row, home, slot, valueOf, value, vacant, Index}
 use Rattle.index.specs.declared.Found.{Found}
 use Rattle.index.specs.declared.Found.the-variants.{At, Vacant, Full}
 use Rattle.index.proofs.Blanks.{blanks-some}
@@ -29,17 +30,38 @@ pub mix-lt : (k : ℕ) → mix k < 4294967296
 unfolding mix
 mix-lt k = omega arith
 
-pub home-lt : (cap k : ℕ) → 0 < cap → home cap k < cap
+row-lt : (cap k : ℕ) → 0 < cap → row cap k < cap
+unfolding row
+row-lt cap k h = let l : mix k * cap < 4294967296 * cap = mul-lt-mul-of-pos-right (mix-lt k) h in omega arith
+
+home-beside : (cap k : ℕ) → row cap k + k % 64 < cap → home cap k ≡ row cap k + k % 64
 unfolding home
-home-lt cap k h = let l : mix k * cap < 4294967296 * cap = mul-lt-mul-of-pos-right (mix-lt k) h in omega arith
+home-beside cap k h = rw (lt-ltb (row cap k + k % 64) cap h)
+
+home-row : (cap k : ℕ) → cap ≤ row cap k + k % 64 → home cap k ≡ row cap k
+unfolding home
+home-row cap k h = rw (le-ltb (row cap k + k % 64) cap h)
+
+pub home-lt : (cap k : ℕ) → 0 < cap → home cap k < cap
+home-lt cap k h = below-or-not (row cap k + k % 64) cap (λ l. rw (home-beside cap k l) l) (λ l. rw (home-row cap k l) (row-lt cap k h))
 
 -- the product fits
 pub start-fits : (cap h : ℕ) → h < 4294967296 → cap ≤ 4294967296 → h * cap < 2 ^ 64
 start-fits cap h a b = let l : h * cap ≤ 4294967295 * 4294967296 = mul-le-mul {n₁ = h} {m₁ = cap} {n₂ = 4294967295} {m₂ = 4294967296} (omega arith) b in omega arith
 
-pub start-is : (cap k h : ℕ) → h ≡ mix k → 0 < cap → (h * cap / 4294967296 ≡ home cap k) × (h * cap / 4294967296 < cap)
-unfolding home
-start-is cap k h e p = rw e (refl, home-lt cap k p)
+module _ (cap k h : ℕ) (e : h ≡ mix k) where
+  row-is : h * cap / 4294967296 ≡ row cap k
+  unfolding row
+  row-is = rw e
+
+  pub row-small : 0 < cap → h * cap / 4294967296 < cap
+  row-small p = rw row-is (row-lt cap k p)
+
+  pub start-beside : h * cap / 4294967296 + k % 64 < cap → (h * cap / 4294967296 + k % 64 ≡ home cap k) × (h * cap / 4294967296 + k % 64 < cap)
+  start-beside l = (rw row-is (sym (home-beside cap k (rw row-is at l))), l)
+
+  pub start-row : 0 < cap → cap ≤ h * cap / 4294967296 + k % 64 → (h * cap / 4294967296 ≡ home cap k) × (h * cap / 4294967296 < cap)
+  start-row p l = (rw row-is (sym (home-row cap k (rw row-is at l))), row-small p)
 
 -- THE LOOP: r is what the whole lookup finds, x the key in the slot i
 

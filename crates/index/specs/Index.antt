@@ -1,8 +1,10 @@
 -- An index from keys to values in 2 * cap cells. A slot is two cells side by side, its key and then its value. A key of 0 is a vacant slot, a value
 -- of 0 a key that has none. A key stays in its slot for good: to remove it is to set its value to 0. So a lookup ends at the first vacant slot.
 use mathlib.Core.Path.{_≡_}
+use mathlib.Core.Bool.{cond}
 use mathlib.Core.List.{List}
 use Prim.Native.Nat.{ℕ, _+_, _*_, _/_, _%_, _^_, _<_, _≤_}
+use lib.Dec.{ltb}
 use lib.ListN.{length}
 use Rattle.runs.specs.Parts.{nth, Kept}
 use Rattle.index.specs.Probe.{probe, blanks}
@@ -18,11 +20,14 @@ valueAt base cs j = nth cs (base + 2 * j + 1)
 
 -- a key's hash. That it is below 2 ^ 32 is all that the laws know of it
 unfoldable pub mix : ℕ → ℕ
-mix k = (k / 4294967296 * 1847521883 + k % 4294967296 * 1052792407) % 4294967296
+mix k = (k / 4294967296 * 1847521883 + k % 4294967296 / 64 * 1052792407) % 4294967296
 
--- the slot where the search for a key starts
+-- the slot where the search for a key starts: keys with one hash go side by side, where there is place
+unfoldable pub row : ℕ → ℕ → ℕ
+row cap k = mix k * cap / 4294967296
+
 unfoldable pub home : ℕ → ℕ → ℕ
-home cap k = mix k * cap / 4294967296
+home cap k = cond (ltb (row cap k + k % 64) cap) (row cap k + k % 64) (row cap k)
 
 -- where a key is, or where it would go
 unfoldable pub slot : ℕ → ℕ → List ℕ → ℕ → Found

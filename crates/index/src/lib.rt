@@ -17,22 +17,29 @@ pub enum Found {
     Full,
 }
 
-// A key's hash, by its two halves. The factors are fractions of 2^32 whose multiples and sums of
-// multiples lie evenly between 0 and 1, so that keys with small halves share few slots.
+// A key's hash, by its two halves, but for its lowest six digits. The factors are fractions of 2^32
+// whose multiples and sums of multiples lie evenly between 0 and 1, so that keys with small halves
+// share few slots.
 fn hash(key: u64) -> u64
     ensures { λ r. ⌜ (r ≡ mix key) × (r < 4294967296) ⌝ }
 {
-    (key / 4294967296 * 1847521883 + key % 4294967296 * 1052792407) % 4294967296
+    (key / 4294967296 * 1847521883 + key % 4294967296 / 64 * 1052792407) % 4294967296
 }
 
-// The slot where the search for a key starts: the hash is taken as a fraction of 2^32, since a
-// division by `cap` is slow.
+// The slot where the search for a key starts. The hash is taken as a fraction of 2^32, since a
+// division by `cap` is slow; from there on the lowest six digits tell, so that keys that follow each
+// other, such as the pairs of one symbol, lie side by side in memory.
 fn start(cap: usize, key: u64) -> usize
     requires { ⌜ (0 < cap) × (cap ≤ 4294967296) ⌝ }
     ensures { λ r. ⌜ (r ≡ home cap key) × (r < cap) ⌝ }
 {
     let h = hash(key);
-    (h * (cap as u64) / 4294967296) as usize
+    let row = (h * (cap as u64) / 4294967296) as usize;
+    let s = row + (key % 64) as usize;
+    if s < cap {
+        return s;
+    }
+    row
 }
 
 // The slot after i.

@@ -2,7 +2,7 @@
 //! agree.
 //!
 //! `bench [--words N,..] [--sizes N,..] [--seeding bytes|chars|both] [--seed-only] [--repeat N]`, where
-//! N may end in k or m. By default only the smallest table and size. A table has N distinct words of 3 to
+//! N may end in k or m. By default 10k and 100k words, sizes 1k, 8k and 32k. A table has N distinct words of 3 to
 //! 12 letters whose frequencies fall off as in text. Of several runs the fastest counts. The rooms are
 //! written once before the time is taken, so that the library does not pay for new pages. Memory is what
 //! is allocated at the peak beyond the table: of the original its own structures, of the library the lent
@@ -35,8 +35,13 @@ struct Arguments {
 }
 
 fn arguments() -> Option<Arguments> {
-    let mut parsed =
-        Arguments { words: vec![1_000], sizes: vec![300], seedings: vec![0, 1], seed_only: false, repeat: 1 };
+    let mut parsed = Arguments {
+        words: vec![10_000, 100_000],
+        sizes: vec![1_000, 8_000, 32_000],
+        seedings: vec![0, 1],
+        seed_only: false,
+        repeat: 1,
+    };
     let mut list = std::env::args().skip(1);
     while let Some(argument) = list.next() {
         match &argument[..] {
