@@ -51,9 +51,3 @@ unfolding Under nth
 under-nth m [] j u h = absurd (omega arith)
 under-nth m (s ∷ l) zero u h = u .0
 under-nth m (s ∷ l) (suc j) u h = under-nth m l j (u .1) (omega arith)
-
-pub under-at : (m : ℕ) (es : List Entry) (k : ℕ) → AllUnder m es → k < length es → Under m (entryAt es k .symbols)
-unfolding AllUnder entryAt
-under-at m [] k b h = absurd (omega arith)
-under-at m (e ∷ es) zero b h = b .0
-under-at m (e ∷ es) (suc k) b h = under-at m es k (b .1) (omega arith)

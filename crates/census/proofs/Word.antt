@@ -13,7 +13,7 @@ use Rattle.word.specs.Layout.{symbolIn, symbolsAt, corpus}
 use Rattle.word.specs.Pushing.{Found}
 use Rattle.word.specs.declared.WordSet.{WordSet}
 use Rattle.word.specs.declared.Span.{Span}
-use Rattle.word.proofs.Views.{symbols-length, nth-symbols, symbols-cons, corpus-length}
+use Rattle.word.proofs.Views.{symbols-length, nth-symbols, symbols-cons, corpus-length, under-at}
 use Rattle.word.proofs.Sets.{word-high, word-symbols, word-inside}
 use Rattle.states.specs.State.{State, most, key, raise, Change}
 use Rattle.states.specs.Tracking.{mores}
@@ -23,7 +23,7 @@ use Rattle.pairs.specs.View.{state}
 use Rattle.pairs.specs.declared.Pairs.{Pairs}
 use Rattle.reports.specs.Reports.{beyond, CanRaise, RaiseDone}
 use Rattle.census.specs.Census.{wordOf, CanCountWord, WordCounted, Raising}
-use Rattle.census.proofs.Sizes.{under-nth, under-at}
+use Rattle.census.proofs.Sizes.{under-nth}
 
 -- THE REPORTS OF A WORD, from its front
 

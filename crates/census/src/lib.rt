@@ -1,4 +1,4 @@
-// Each pair's count and the words that hold it, before the first merge: `count_pairs` of the original.
+// The first count: what is known of every pair before any merge (`count_pairs` of the original).
 ghost use Rattle.numbers.specs.Cells.{cells};
 ghost use Rattle.census.specs.Census.{CanCount, CountDone, CanCountWord, WordCounted};
 use pairs::Pairs;

@@ -9,7 +9,7 @@ use lib.ListN.{length}
 use Rattle.runs.specs.Parts.{Kept}
 use Rattle.rule.specs.Table.{Task}
 use Rattle.rule.specs.Seeding.{Entry}
-use Rattle.rule.specs.Training.{Choice, count, within, joinedOf}
+use Rattle.rule.specs.Training.{Choice, count, within}
 use Rattle.rule.specs.Demand.{Open, Chosen}
 use Rattle.lazy.specs.Lazy.{insert, live}
 use Rattle.lazy.specs.Invariant.{Inv}
@@ -24,13 +24,13 @@ use Rattle.states.specs.State.{leftOf, rightOf, OfPair}
 use Rattle.waiting.specs.Waiting.{waits, queueOf}
 use Rattle.waiting.proofs.Queue.{queue-none, queue-pop, queue-cons}
 use Rattle.recount.specs.Recount.{limits}
+use Rattle.recount.proofs.Limits.{within-limits}
 use Rattle.engine.specs.Engine.{Limits, Queued, Waiting}
 
 -- A TASK, by its prefix and its limit; there is always one
 pub within-task : (t : Task) {prefix : List ℕ} {limit : ℕ} → Limits t prefix limit → (ps : List (List ℕ)) (a b : ℕ)
     → within t ps a b ≡ within (limits prefix limit) ps a b
-unfolding within joinedOf limits
-within-task t l ps a b = rw (l .prefix-is, l .limit-is)
+within-task t l ps a b = within-limits t _ _ (l .prefix-is) (l .limit-is) ps a b
 
 some-task : (prefix : List ℕ) (limit : ℕ) → Limits (limits prefix limit) prefix limit
 unfolding limits

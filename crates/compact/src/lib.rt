@@ -1,7 +1,6 @@
-// Sliding the words of a set down over the gaps that merging left.
+// Closing the gaps between the words of a set.
 //
-// Words only ever shrink, so each one moves down into space already vacated and nothing needs a
-// second room to copy through.
+// No word grows, so in order each finds its new place at or below the old one: one pass, in the room itself.
 ghost use Prim.Native.Nat.{_+_, _<_, _≤_};
 ghost use lib.ListN.{length};
 ghost use Rattle.runs.specs.Parts.{nth};
@@ -35,7 +34,7 @@ fn slide(room: &mut [u8], w: word::WordSet, k: usize, to: usize) -> usize
     to + 2 + n
 }
 
-// Slides every word down over the gaps, each unchanged and with the number that it had, and lowers
+// Puts each word right behind the one before, as it is and under the number that it had, and lowers
 // the top.
 pub fn compact(room: &mut [u8], w: word::WordSet) -> word::WordSet
     requires { ⌜ Words w (cells (now room)) ⌝ }

@@ -1,5 +1,5 @@
 // The queue engine between two merges: the words, what is known of each pair, and the queue of the pairs that may be merged next.
-// "Two structures avoid it": a merge visits only the words that hold its pair, and no entry is looked for when counts change.
+// So a merge goes to the words that hold its pair and to no others, and leaves the queue's entries alone.
 ghost use mathlib.Core.Bool.{true};
 ghost use Prim.Native.Nat.{_<_};
 ghost use Rattle.numbers.specs.Cells.{cells};
@@ -42,7 +42,7 @@ fn mark(room: &mut [u8], p: Pairs, key: u64, r: usize)
     pairs::set_marks(room, p, key, r, touched);
 }
 
-// Slides the words together, where merging has left more dead space than live symbols.
+// Closes the gaps between the words, where these take more cells than the symbols.
 fn tidy(room: &mut [u8], w: WordSet) -> WordSet
     requires { ⌜ Words w (cells (now room)) ⌝ }
     ensures { λ r. ⌜ Tidied w (cells (now (room .entry))) (cells (now (room .exit))) r ⌝ }

@@ -1,5 +1,5 @@
 -- The lazy rule: a queue of pairs, each with the count that it was entered with, in place of a recount before each merge. No entry is looked for when a
--- merge changes counts: whether it is stale is asked when it comes to be taken, and it is then corrected and put back.
+-- merge changes counts: whether it is stale is asked when it comes to be taken, and then it gets its count of now and waits again.
 use mathlib.Core.Bool.{cond, _&&_, _||_}
 use mathlib.Core.List.{List, [], _∷_, _++_}
 use Prim.Native.Nat.{ℕ, zero, suc, _+_, _*_, max}

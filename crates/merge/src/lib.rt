@@ -57,8 +57,8 @@ pub fn left_by(room: &[u8], at: usize, st: step::Step) -> u64
     st.symbol as u64
 }
 
-// Rewrites (a,b) to x in the n symbols from the cell `start` on, and says how many are kept. A merge
-// only ever shortens a word, so what is written never overtakes what is read.
+// Rewrites (a,b) to x in the n symbols from the cell `start` on, and says how many are kept. No
+// step writes more cells than it reads, so that writing stays behind reading.
 fn rewrite_run(room: &mut [u8], start: usize, n: usize, a: u32, b: u32, x: u32) -> usize
     requires { ⌜ start + n ≤ length (cells (now room)) ⌝ }
     ensures { λ k. ⌜ Rewritten a b x start n (cells (now (room .entry))) (cells (now (room .exit))) k ⌝ }

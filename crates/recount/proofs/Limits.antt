@@ -51,7 +51,7 @@ module _ (n u : ℕ) (xs ys : List ℕ) (held : Held n u xs ys) (s t : ℕ) (hs 
 
 -- A TASK, by its prefix and its limit
 module _ (t : Task) (p : List ℕ) (limit : ℕ) (ep : t .prefix ≡ p) (el : t .maxPieceLength ≡ limit) (ps : List (List ℕ)) where
-  within-limits : (a b : ℕ) → within t ps a b ≡ within (limits p limit) ps a b
+  pub within-limits : (a b : ℕ) → within t ps a b ≡ within (limits p limit) ps a b
   unfolding within joinedOf limits
   within-limits a b = rw (ep, el)
 

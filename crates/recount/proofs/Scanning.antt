@@ -16,7 +16,7 @@ use Rattle.word.specs.Layout.{symbolIn, symbolsAt, corpus, entryAt}
 use Rattle.word.specs.Pushing.{Found}
 use Rattle.word.specs.declared.WordSet.{WordSet}
 use Rattle.word.specs.declared.Span.{Span}
-use Rattle.word.proofs.Views.{symbols-length, symbols-cons, corpus-length}
+use Rattle.word.proofs.Views.{symbols-length, symbols-cons, corpus-length, under-at}
 use Rattle.counting.proofs.Counts.{drop-entry}
 use Rattle.recount.specs.Recount.{limits, ruled, pick, known, Weighed, Tried, Chosen}
 use Rattle.recount.specs.declared.Choice.{Choice}
@@ -141,12 +141,6 @@ module _ (m at n : ℕ) (cs : List ℕ) (b : Under m (symbolsAt at n cs)) (h : 1
   pub under-rest : Under m (symbolsAt (at + 1) (n - 1) cs)
   unfolding Under
   under-rest = rw (symbols-next at n cs h l) (under-two .1)
-
-under-at : (m : ℕ) (es : List Entry) (k : ℕ) → AllUnder m es → k < length es → Under m (entryAt es k .symbols)
-unfolding AllUnder entryAt
-under-at m [] k b h = absurd (omega arith)
-under-at m (e ∷ es) zero b h = b .0
-under-at m (e ∷ es) (suc k) b h = under-at m es k (b .1) (omega arith)
 
 -- the loop
 module _ (w : WordSet) (k : ℕ) (cs : List ℕ) (r : Span) (f : Found w k cs r) where

@@ -49,7 +49,7 @@ pub record Among (w : ℕ) (ws : List ℕ) : Type 0 where
 unfoldable pub lastIs : ℕ → List ℕ → Bool
 lastIs w ws = ltb 0 (length ws) && eqb (nth ws (length ws - 1)) w
 
--- "ascending and without repeats": words are visited in order, so a repeat can only be the one noted last
+-- a list is in rising order, each word once: words come in order, so that to look at the last is enough
 unfoldable pub noted : ℕ → List ℕ → List ℕ
 noted w ws = cond (lastIs w ws) ws (ws ++ (w ∷ []))
 

@@ -15,7 +15,7 @@ ghost use Rattle.rfc3629.specs.Cut.{wellFormed, cut};
 ghost use Rattle.rule.specs.Table.{chars};
 ghost use Rattle.text.specs.Units.{byChars, rest, Next, Counted};
 
-// How a word's bytes are cut: each byte is a unit, or each character of a well-formed word.
+// What the units of a word are: its bytes, or the characters of a well-formed word.
 pub enum Seeding {
     Bytes,
     Chars,

@@ -160,3 +160,10 @@ pub corpus-below : (cs : List ℕ) (starts n : ℕ) → AllUnder (2 ^ 32) (corpu
 unfolding corpus lines AllUnder
 corpus-below cs starts zero = tt
 corpus-below cs starts (suc n) = (below-symbols (part (nth cs starts + 2) (nth cs (nth cs starts + 1)) cs), corpus-below cs (starts + 1) n)
+
+-- and of each word, below what they all are
+pub under-at : (m : ℕ) (es : List Entry) (k : ℕ) → AllUnder m es → k < length es → Under m (entryAt es k .symbols)
+unfolding AllUnder entryAt
+under-at m [] k b h = absurd (omega arith)
+under-at m (e ∷ es) zero b h = b .0
+under-at m (e ∷ es) (suc k) b h = under-at m es k (b .1) (omega arith)

@@ -43,7 +43,7 @@ corpus cs starts n = map bySymbols (lines cs starts n)
 unfoldable pub entryAt : List Entry → ℕ → Entry
 entryAt es k = getD es k (record { frequency = 0; symbols = [] })
 
--- "Symbols still in use"
+-- how many symbols some words have
 unfoldable pub inUse : List Entry → ℕ
 inUse [] = 0
 inUse (e ∷ es) = length (e .symbols) + inUse es
@@ -75,6 +75,6 @@ pub record Numbers (r : WordSet) (starts count low top live : ℕ) : Type 0 wher
   pub top-is : r .top ≡ top
   pub live-is : r .live ≡ live
 
--- "Whether merging has left more dead space than live symbols": the span of the symbols, without each word's two cells before them
+-- the gaps take more cells than the symbols: of the span, each word's two cells before its symbols are neither
 unfoldable pub sparse : WordSet → Bool
 sparse w = ltb (2 * w .live) (w .top - w .low - 2 * w .count)

@@ -1,4 +1,4 @@
-// The words of a corpus, laid end to end in one lent room of cells.
+// A corpus in one lent room of cells, its words one behind the other.
 ghost use mathlib.Core.Path.{_≡_};
 ghost use Prim.Native.Nat.{_+_, _*_, _<_, _≤_, _^_};
 ghost use lib.ListN.{length};
@@ -8,8 +8,7 @@ ghost use Rattle.word.specs.Layout.{symbolIn, corpus, entryAt, Words, Nu
 ghost use Rattle.word.specs.Pushing.{Opened, Added, Pushed, Placed, Found};
 
 // `count` words whose places stand from the cell `starts` on, and who lie from the cell `low` up to
-// `top`. `live` counts the symbols still in use, as against the span, which has the gaps that
-// merging opened too.
+// `top`, with gaps between them where they were rewritten. `live` is how many symbols they have.
 pub struct WordSet {
     pub starts: usize,
     pub count: usize,
@@ -125,7 +124,7 @@ pub fn frequency(room: &[u8], w: WordSet, k: usize) -> u64
     numbers::cell(room, first)
 }
 
-// Whether merging has left more dead space than live symbols.
+// Whether the gaps have come to take more cells than the symbols.
 pub fn is_sparse(w: WordSet) -> bool
     requires { ⌜ (w .low + w .live + 2 * w .count ≤ w .top) × (w .top < 2 ^ 61) ⌝ }
     ensures { λ r. ⌜ r ≡ sparse w ⌝ }

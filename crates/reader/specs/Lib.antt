@@ -1,0 +1,2 @@
+-- The definitions of `reader`: what a piece handed out is.
+pub mod Reader
