@@ -69,12 +69,16 @@ under-with n zero l (e ∷ es) h u = (h, u .1)
 under-with n (suc k) l (e ∷ es) h u = (u .0, under-with n k l es h (u .1))
 
 -- no frequency has changed
+pub frequency-change : (f : List ℕ → List ℕ) (k j : ℕ) (es : List Entry) → entryAt (changeAt f k es) j .frequency ≡ entryAt es j .frequency
+unfolding changeAt entryAt
+frequency-change f k j [] = refl
+frequency-change f zero zero (e ∷ es) = refl
+frequency-change f zero (suc j) (e ∷ es) = refl
+frequency-change f (suc k) zero (e ∷ es) = refl
+frequency-change f (suc k) (suc j) (e ∷ es) = frequency-change f k j es
+
 pub weighed-change : (f : List ℕ → List ℕ) (k : ℕ) (es : List Entry) → Weighed es → Weighed (changeAt f k es)
-weighed-change f k es h j l =
-    let m : j < length es = omega (arith, change-length f k es) in
-    same-or-not j k
-    (λ (e : j ≡ k). let n : k < length es = rw e at m in rw (e, change-this f k es n) (h k n))
-    (λ d. rw (change-other f k j es d) (h j m))
+weighed-change f k es h j l = rw (frequency-change f k j es) (h j (omega (arith, change-length f k es)))
 
 -- REWRITING ALL: what is rewritten already stays, and where no word holds the pair all stay
 module _ (a b x : ℕ) where

@@ -1,10 +1,14 @@
 // A merge in the words that hold its pair: each is rewritten in place, and the reports of each rewrite are applied as it is made.
-ghost use Prim.Native.Nat.{_<_};
+ghost use mathlib.Core.Path.{_≡_};
+ghost use Prim.Native.Nat.{_+_, _<_, _≤_};
+ghost use lib.ListN.{length};
 ghost use Rattle.numbers.specs.Cells.{cells};
 ghost use Rattle.states.specs.State as states;
+ghost use Rattle.pairs.specs.View.{state};
 ghost use Rattle.pairs.specs.Pairs.{Has};
 ghost use Rattle.joining.specs.Joining.{Midway, JoinedWord, JoinedAll};
-ghost use Rattle.joining.specs.Running.{CanTell, Told, CanShorten, Shortened};
+ghost use Rattle.joining.specs.Running.{wordOf, CanTell, Told, CanShorten, Shortened};
+ghost use Rattle.joining.specs.Visiting.{together, CanLook, Weights, Visiting};
 use pairs::Pairs;
 use step::Step;
 use word::WordSet;
@@ -54,22 +58,22 @@ fn shorten(room: &mut [u8], w: WordSet, start: usize, long: usize, kept: usize, 
     }
 }
 
-// Rewrites (a,b) to x in word k, where n pairs are touched so far. Each rewrite is reported before it is written, with the symbol
+// Rewrites (a,b) to x in word k, of frequency f, where n pairs are touched so far. Each rewrite is reported before it is written, with the symbol
 // that stands before it in the rewritten word.
 fn merge_word(
     room: &mut [u8],
     w: WordSet,
     p: Pairs,
     k: usize,
+    f: u64,
     a: u32,
     b: u32,
     x: u32,
     n: usize,
 ) -> Joined
-    requires { ⌜ (Midway a b x w p n (cells (now room))) × (k < w .count) ⌝ }
+    requires { ⌜ (Midway a b x w p n (cells (now room))) × (k < w .count) × (f ≡ wordOf w k (cells (now room)) .frequency) ⌝ }
     ensures { λ r. ⌜ JoinedWord a b x w p k (cells (now (room .entry))) (cells (now (room .exit))) r ⌝ }
 {
-    let f = word::frequency(room, w, k);
     let here = word::word(room, w, k);
     let mut at = here.start;
     let mut left = here.length;
@@ -89,6 +93,75 @@ fn merge_word(
         kept += 1;
     }
     shorten(room, w, here.start, here.length, kept, m)
+}
+
+// How many of the `left` words of a list that are not visited yet are visited next.
+fn batch(left: usize) -> usize
+    ensures { λ n. ⌜ n ≡ together left ⌝ }
+{
+    if left < 16 {
+        return left;
+    }
+    16
+}
+
+// The frequencies of n words of a pair's list, from the i-th on. Each read waits for no other, so that the words are fetched side by
+// side, before the first is rewritten.
+fn frequencies(
+    room: &[u8],
+    w: WordSet,
+    p: Pairs,
+    key: u64,
+    r: usize,
+    i: usize,
+    n: usize,
+) -> [u64; 16]
+    requires { ⌜ CanLook w p key r i n (cells (now room)) ⌝ }
+    ensures { λ fs. ⌜ Weights w p key i n (cells (now (room .entry))) fs ⌝ }
+{
+    let mut fs = [0u64; 16];
+    let mut j = 0;
+    while j < n {
+        let k = notes::word_at(room, p, key, r, i + j) as usize;
+        fs[j] = word::frequency(room, w, k);
+        j += 1;
+    }
+    fs
+}
+
+// Rewrites (a,b) to x in `some` words of the pair's list, from the i-th on.
+fn merge_some(
+    room: &mut [u8],
+    w: WordSet,
+    p: Pairs,
+    r: usize,
+    i: usize,
+    some: usize,
+    a: u32,
+    b: u32,
+    x: u32,
+    n: usize,
+) -> Joined
+    requires { ⌜ (Midway a b x w p n (cells (now room))) × (Has p (states.key a b) r (cells (now room))) ⌝ }
+    requires { ⌜ (i + some ≤ length (state p (cells (now room)) (states.key a b) .words)) × (some ≤ 16) ⌝ }
+    ensures { λ j. ⌜ Visiting a b x w p r i (i + some) (j .touched) (j .words) (cells (now (room .entry))) (cells (now (room .exit))) ⌝ }
+{
+    let key = reports::key(a, b);
+    let fs = frequencies(room, w, p, key, r, i, some);
+    let mut v = w;
+    let mut m = n;
+    let mut j = 0;
+    while j < some {
+        let k = notes::word_at(room, p, key, r, i + j) as usize;
+        let d = merge_word(room, v, p, k, fs[j], a, b, x, m);
+        v = d.words;
+        m = d.touched;
+        j += 1;
+    }
+    Joined {
+        words: v,
+        touched: m,
+    }
 }
 
 // Rewrites (a,b) to x in the words of the pair's list, which has every word that holds it. Its record is r.
@@ -111,11 +184,11 @@ pub fn merge_words(
     let mut m = n;
     let mut i = 0;
     while i < many {
-        let k = notes::word_at(room, p, key, r, i) as usize;
-        let d = merge_word(room, v, p, k, a, b, x, m);
+        let some = batch(many - i);
+        let d = merge_some(room, v, p, r, i, some, a, b, x, m);
         v = d.words;
         m = d.touched;
-        i += 1;
+        i += some;
     }
     Joined {
         words: v,

@@ -82,6 +82,9 @@ module _ (p : Pairs) (k r : ℕ) (cs : List ℕ) (h : Has p k r cs) where
       (λ f. rw (words-long f) (length-part _ _ cs (run-fits f)))
       (λ f. rw (words-short f) (length-part _ _ cs (short-fits f)))
 
+  pub words-fit : length (state p cs k .words) ≤ length cs
+  words-fit = below-or-not 4 (many p cs r) (λ f. omega (arith, words-many, run-fits f)) (λ f. omega (arith, words-many, short-fits f))
+
   -- ONE WORD, where there are n
   module _ (n j : ℕ) (e : n ≡ many p cs r) (l : j < length (state p cs k .words)) where
     pub word-low : j < n

@@ -13,15 +13,12 @@ use Rattle.joining.proofs.merge_word.Tie as tie
 ruleset laws = (running-start, running-read, running-shorten, running-joined, cells-small, needs)
 
 abbrev Inv-loop : tie.InvT-loop
-Inv-loop room₀ w p k a b x n f here at₀ left₀ kept₀ m₀ has₀ previous₀ room at left kept m has previous =
+Inv-loop room₀ w p k f a b x n here at₀ left₀ kept₀ m₀ has₀ previous₀ room at left kept m has previous =
     (length room ≡ length room₀)
     × Running a b x w p k n (here .start) (here .length) f kept at left m has previous (cells room₀) (cells room)
 
 abbrev μ-loop : tie.MeasureT-loop
-μ-loop room₀ w p k a b x n f here at₀ left₀ kept₀ m₀ has₀ previous₀ room at left kept m has previous = left
-
-frequency-requires : tie.Need-frequency-requires Inv-loop μ-loop
-frequency-requires c κs = search laws
+μ-loop room₀ w p k f a b x n here at₀ left₀ kept₀ m₀ has₀ previous₀ room at left kept m has previous = left
 
 word-requires : tie.Need-word-requires Inv-loop μ-loop
 word-requires c κs = search laws
@@ -80,7 +77,6 @@ merge-word-spec =
     (tie.spec
     Inv-loop
     μ-loop
-    frequency-requires
     word-requires
     loop-holds
     look-requires
