@@ -5,7 +5,6 @@ use mathlib.Core.Logic.{inr}
 use Prim.Native.Nat.{ℕ, _+_, _*_, _^_, _<_, _≤_}
 use native.Mathlib.Omega.{arith}
 use lib.ListN.{length}
-use Rattle.runs.proofs.Parts.{part-none}
 use Rattle.runs.proofs.Frames.{kept-none, kept-then}
 use Rattle.word.specs.Layout.{corpus, inUse}
 use Rattle.word.specs.declared.WordSet.{WordSet}
@@ -20,18 +19,15 @@ use Rattle.states.proofs.Tracks.{tracked-light}
 use Rattle.states.proofs.Gains.{gained-reported}
 use Rattle.states.proofs.Counts.{upTo-all, tracks-blank, gained-blank, tracks-word}
 use Rattle.states.proofs.Touches.{touching-none}
-use Rattle.pairs.specs.View.{behind, state}
+use Rattle.pairs.specs.View.{state}
 use Rattle.pairs.specs.Pairs.{Empty}
 use Rattle.pairs.specs.declared.Pairs.{Pairs}
-use Rattle.reports.specs.Reports.{beyond, keysOf, Listing}
+use Rattle.reports.specs.Reports.{beyond, Listing}
+use Rattle.reports.proofs.Listed.{keys-none}
 use Rattle.census.specs.Census.{CanCount, Counting, CountDone, wordOf, CanCountWord, WordCounted}
 use Rattle.census.proofs.Sizes.{weight-word, used-word, used-most}
 
 -- THE START: no pair is known, so none is touched
-
-keys-none : (p : Pairs) (cs : List ℕ) → keysOf p 0 cs ≡ []
-unfolding keysOf
-keys-none p cs = rw (part-none (behind p) cs)
 
 blank-calm : (σ : ℕ → State) → ((c : ℕ) → 0 < c → σ c ≡ blank) → Calm σ
 blank-calm σ h = record { untouched = λ c z. rw (h c z) (marked-none touched); ungained = λ c z. rw (h c z) (marked-none gained) }

@@ -25,6 +25,7 @@ use Rattle.pairs.specs.Pairs.{Pairing}
 use Rattle.pairs.specs.declared.Pairs.{Pairs}
 use Rattle.pairs.proofs.Clients.{pairs-kept}
 use Rattle.engine.specs.Engine.{wordsIn, Engaged}
+use Rattle.engine.proofs.Merging.{same-calm}
 use Rattle.choosing.specs.Turns.{Blocked, barred}
 
 -- THE COUNT OF A PAIR is the one that a recount finds, where no pair is being merged
@@ -33,13 +34,7 @@ live-exact {σ} c t p =
     ap (λ (d : ℕ). σ d .count) (sym (p .is))
     ∙ t .exact (leftOf c) (rightOf c) (p .left) (p .right) (λ z. omega (arith, key-pos (leftOf c) (rightOf c), z))
 
--- no pair is touched, where the states are as they were, or one is blocked
-calm-same : {σ τ : ℕ → State} → ((c : ℕ) → 0 < c → τ c ≡ σ c) → Calm σ → Calm τ
-calm-same h k = record {
-  untouched = λ c z. ap (λ (s : State). marked touched (s .marks)) (h c z) ∙ k .untouched c z;
-  ungained = λ c z. ap (λ (s : State). marked gained (s .marks)) (h c z) ∙ k .ungained c z;
-}
-
+-- no pair is touched where one is blocked
 calm-barred : {σ τ : ℕ → State} (k : ℕ) → Change k (barred (σ k)) σ τ → Calm σ → Calm τ
 calm-barred {σ} {τ} k h s = record { untouched = λ c z. other touched refl c z (s .untouched c z); ungained = λ c z. other gained refl c z (s .ungained c z) }
   where
@@ -76,7 +71,7 @@ module _ {w : WordSet} {p : Pairs} {q x : ℕ} {cs ds : List ℕ} (s : Engaged w
     engaged-behind =
         let same = pairs-kept p cs ds (s .ok) k (inl (omega (arith, s .behind))) in
         engaged-on view-behind (k .long) (words-kept w cs ds q hi (s .words) k (inr (omega (arith, s .apart, s .behind)))) (same .ok) (same .same)
-        (tracks-same (same .states) (s .tracks)) (calm-same (same .states) (s .calm))
+        (tracks-same (same .states) (s .tracks)) (same-calm (same .states) (s .calm))
 
   -- A PAIR IS BLOCKED
   module _ {c : ℕ} (b : Blocked p c cs ds) where

@@ -1,13 +1,13 @@
 -- A merge, stage by stage: its pair is marked, the words rewritten, the touched pairs settled, the pair removed, the words tidied. Assumes nothing.
 use mathlib.Core.Path.{_≡_, refl, ap, _∙_}
 use mathlib.Core.Bool.{true}
-use mathlib.Core.List.{List, [], _∷_, _++_, map}
+use mathlib.Core.List.{List, [], _∷_, _++_}
 use mathlib.Core.Logic.{inr, ⊎-elim}
 use Prim.Native.Nat.{ℕ, _+_, _-_, _*_, _<_, _≤_}
 use native.Mathlib.Omega.{arith}
 use lib.ListN.{length, length-append}
 use Rattle.runs.specs.Parts.{nth}
-use Rattle.runs.proofs.Parts.{same-or-not, part-none}
+use Rattle.runs.proofs.Parts.{same-or-not}
 use Rattle.rule.specs.Table.{Task}
 use Rattle.rule.specs.Seeding.{Entry}
 use Rattle.rule.specs.Training.{Choice, joinedOf, rewriteAll}
@@ -27,11 +27,12 @@ use Rattle.states.proofs.Keys.{key-pos}
 use Rattle.states.proofs.Tracks.{tracks-from, tracks-marked, tracks-settled, tracks-done, tracks-same}
 use Rattle.states.proofs.Gains.{gaining-start, gaining-same}
 use Rattle.states.proofs.Touches.{touching-merge}
-use Rattle.pairs.specs.View.{behind, recordOf, keyIn, state}
+use Rattle.pairs.specs.View.{behind, recordOf, state}
 use Rattle.pairs.specs.Pairs.{Pairing, Has, Removed, Updated, SamePairs}
 use Rattle.pairs.specs.declared.Pairs.{Pairs}
 use Rattle.pairs.proofs.Clients.{has-tied, counted-has, pairs-kept}
 use Rattle.reports.specs.Reports.{beyond, keysOf, Listing}
+use Rattle.reports.proofs.Listed.{keys-none}
 use Rattle.waiting.specs.Waiting.{queueOf, gainers}
 use Rattle.waiting.proofs.Queue.{queue-length}
 use Rattle.waiting.proofs.Gained.{merged-older, queue-gained}
@@ -53,11 +54,6 @@ pub touched-now : {p : Pairs} {k r m v : ℕ} {cs ds : List ℕ} → m ≡ state
     → Updated p k r (record { count = state p cs k .count; marks = marking touched true (state p cs k .marks); words = state p cs k .words }) cs ds
 touched-now e f u = rw (← e, ← f) u
 
--- no key stands on an empty list
-keys-none : (p : Pairs) (cs : List ℕ) → keysOf p 0 cs ≡ []
-unfolding keysOf
-keys-none p cs = ap (map (keyIn p cs)) (part-none (behind p) cs)
-
 -- CALM STATES: settled ones without the merged pair, and those that are as they were
 removed-calm : {e : ℕ} {σ τ υ : ℕ → State} → Settled e σ τ → Change e blank τ υ → Calm υ
 removed-calm {e} s h = record {
@@ -65,7 +61,7 @@ removed-calm {e} s h = record {
   ungained = λ c z. same-or-not c e (λ i. rw (i, h .here) (marked-none gained)) (λ n. rw (h .others c z n) (s .ungained c z n));
 }
 
-same-calm : {σ τ : ℕ → State} → ((c : ℕ) → 0 < c → τ c ≡ σ c) → Calm σ → Calm τ
+pub same-calm : {σ τ : ℕ → State} → ((c : ℕ) → 0 < c → τ c ≡ σ c) → Calm σ → Calm τ
 same-calm h m = record { untouched = λ c z. rw (h c z) (m .untouched c z); ungained = λ c z. rw (h c z) (m .ungained c z) }
 
 module _ (g : Engine) (a b x : ℕ) (cs : List ℕ) (j : CanJoin g a b x cs) where

@@ -23,7 +23,7 @@ use Rattle.states.proofs.Keys.{key-pos}
 use Rattle.pairs.specs.View.{state}
 use Rattle.pairs.specs.Pairs.{Has}
 use Rattle.pairs.specs.declared.Pairs.{Pairs}
-use Rattle.notes.proofs.Reading.{words-fit}
+use Rattle.lists.proofs.Reading.{words-fit}
 use Rattle.reports.specs.Reports.{beyond}
 use Rattle.joining.specs.Joining.{Midway, JoinedWord, JoinedAll}
 use Rattle.joining.specs.Running.{wordOf}

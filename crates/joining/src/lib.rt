@@ -122,7 +122,7 @@ fn frequencies(
     let mut fs = [0u64; 16];
     let mut j = 0;
     while j < n {
-        let k = notes::word_at(room, p, key, r, i + j) as usize;
+        let k = lists::word_at(room, p, key, r, i + j) as usize;
         fs[j] = word::frequency(room, w, k);
         j += 1;
     }
@@ -152,7 +152,7 @@ fn merge_some(
     let mut m = n;
     let mut j = 0;
     while j < some {
-        let k = notes::word_at(room, p, key, r, i + j) as usize;
+        let k = lists::word_at(room, p, key, r, i + j) as usize;
         let d = merge_word(room, v, p, k, fs[j], a, b, x, m);
         v = d.words;
         m = d.touched;
@@ -179,7 +179,7 @@ pub fn merge_words(
     ensures { λ j. ⌜ JoinedAll a b x w p (cells (now (room .entry))) (cells (now (room .exit))) j ⌝ }
 {
     let key = reports::key(a, b);
-    let many = notes::words_len(room, p, key, r) as usize;
+    let many = lists::words_len(room, p, key, r) as usize;
     let mut v = w;
     let mut m = n;
     let mut i = 0;

@@ -19,7 +19,8 @@ use Rattle.pairs.specs.Pairs.{Tied, Run, Long, Has}
 use Rattle.pairs.specs.declared.Pairs.{Pairs}
 use Rattle.pairs.proofs.Moves.{Moved, state-has, moved-state, moved-spent, moved-ok}
 use Rattle.notes.specs.Notes.{withNote, withMore, CanNote, Noted, AddShort, AddLong, Still, Ready}
-use Rattle.notes.proofs.Reading.{near-cell, has-key, has-live, has-state, words-short}
+use Rattle.pairs.proofs.Fields.{has-key, has-live, has-state}
+use Rattle.lists.proofs.Reading.{near-cell, words-short}
 use Rattle.notes.proofs.Credits.{credit-short, credit-long}
 use Rattle.notes.proofs.Steps.{top-cell, still-then, field-past, field-still, beyond-field, beyond-live, beyond-still}
 

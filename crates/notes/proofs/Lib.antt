@@ -1,5 +1,4 @@
 -- The laws of `notes`.
-pub mod Reading
 pub mod Credits
 pub mod Steps
 pub mod Adding

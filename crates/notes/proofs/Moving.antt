@@ -14,7 +14,8 @@ use Rattle.pairs.specs.Pairs.{Long, Has}
 use Rattle.pairs.specs.declared.Pairs.{Pairs}
 use Rattle.pairs.proofs.Moves.{top-most}
 use Rattle.notes.specs.Notes.{AddLong, Still, CanMove, MovedList, Ready}
-use Rattle.notes.proofs.Reading.{has-live, has-record, has-long, words-short, words-long, run-fits}
+use Rattle.pairs.proofs.Fields.{has-live, has-record}
+use Rattle.lists.proofs.Reading.{has-long, words-short, words-long, run-fits}
 use Rattle.notes.proofs.Credits.{credit-short, credit-long, credit-space}
 use Rattle.notes.proofs.Steps.{top-cell, still-none, still-then, field-past, field-still, beyond-still}
 

@@ -1,95 +1,12 @@
-// A pair's list of words: `WordList` and `PairState` of the original. Up to four words stand in the pair's record; a longer list
-// stands in a run of cells, and moves to one of twice the capacity when that is full.
+// A word noted in a pair's list. A list that stands in the pair's record moves to a run of cells with its fifth word, and one that has
+// filled its run to one of twice the capacity.
 ghost use mathlib.Core.Path.{_≡_};
-ghost use Prim.Native.Nat.{_<_};
-ghost use lib.ListN.{length};
-ghost use Rattle.runs.specs.Parts.{nth};
 ghost use Rattle.numbers.specs.Cells.{cells};
 ghost use Rattle.states.specs.State.{lastIs};
 ghost use Rattle.pairs.specs.View.{state};
 ghost use Rattle.pairs.specs.Pairs.{Has};
-ghost use Rattle.notes.specs.Notes.{kindOf, lengthOf, Loaded, withNote, withMore, CanNote, Noted, AddShort, AddLong, Ready, CanMove, MovedList};
+ghost use Rattle.notes.specs.Notes.{withNote, withMore, CanNote, Noted, AddShort, AddLong, Ready, CanMove, MovedList};
 use pairs::Pairs;
-
-// Which kind of list, and how many words. An enum holds no array: the short words stand beside it, the long list at the place.
-pub enum WordList {
-    Short(u64),
-    Spilled(u64, u64),
-}
-
-// Everything known of one pair.
-pub struct PairState {
-    pub count: u64,
-    pub marks: u8,
-    pub words: WordList,
-    pub near: [u64; 4],
-}
-
-// How many words a list has.
-pub fn len(words: WordList) -> u64
-    ensures { λ r. ⌜ r ≡ lengthOf words ⌝ }
-{
-    match words {
-        WordList::Short(n) => n,
-        WordList::Spilled(_, n) => n,
-    }
-}
-
-// Which kind of list n words are.
-fn kind(n: u64, place: u64) -> WordList
-    ensures { λ r. ⌜ r ≡ kindOf n place ⌝ }
-{
-    if n <= 4 {
-        return WordList::Short(n);
-    }
-    WordList::Spilled(place, n)
-}
-
-// The state of a pair that has the record r.
-pub fn load(room: &[u8], p: Pairs, key: u64, r: usize) -> PairState
-    requires { ⌜ Has p key r (cells (now room)) ⌝ }
-    ensures { λ s. ⌜ Loaded p key (cells (now (room .entry))) s ⌝ }
-{
-    let at = p.base + 2 * p.cap;
-    let n = arena::get_field(room, at, p.most, r, 3);
-    let a = arena::get_field(room, at, p.most, r, 4);
-    let b = arena::get_field(room, at, p.most, r, 5);
-    let c = arena::get_field(room, at, p.most, r, 6);
-    let d = arena::get_field(room, at, p.most, r, 7);
-    let count = pairs::count(room, p, key, r);
-    let marks = pairs::marks(room, p, key, r);
-    let words = kind(n, a);
-    PairState {
-        count: count,
-        marks: marks,
-        words: words,
-        near: [a, b, c, d],
-    }
-}
-
-// The j-th word of its list.
-pub fn word_at(room: &[u8], p: Pairs, key: u64, r: usize, j: usize) -> u64
-    requires { ⌜ (Has p key r (cells (now room))) × (j < length (state p (cells (now room)) key .words)) ⌝ }
-    ensures { λ w. ⌜ w ≡ nth (state p (cells (now (room .entry))) key .words) j ⌝ }
-{
-    let at = p.base + 2 * p.cap;
-    let n = arena::get_field(room, at, p.most, r, 3);
-    if n <= 4 {
-        return numbers::cell(room, at + 3 + r * 8 + 4 + j);
-    }
-    let place = arena::get_field(room, at, p.most, r, 4) as usize;
-    numbers::cell(room, at + 3 + p.most * 8 + 2 + place + j)
-}
-
-// How many words its list has.
-pub fn words_len(room: &[u8], p: Pairs, key: u64, r: usize) -> u64
-    requires { ⌜ Has p key r (cells (now room)) ⌝ }
-    ensures { λ n. ⌜ n ≡ length (state p (cells (now (room .entry))) key .words) ⌝ }
-{
-    let s = load(room, p, key, r);
-    let words = s.words;
-    len(words)
-}
 
 // Whether the word noted last is w.
 fn seen(room: &[u8], p: Pairs, key: u64, r: usize, w: u64) -> bool
@@ -100,7 +17,7 @@ fn seen(room: &[u8], p: Pairs, key: u64, r: usize, w: u64) -> bool
     if n == 0 {
         return false;
     }
-    let x = word_at(room, p, key, r, n - 1);
+    let x = lists::word_at(room, p, key, r, n - 1);
     x == w
 }
 

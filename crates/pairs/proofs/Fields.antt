@@ -22,17 +22,20 @@ module _ (p : Pairs) (k r : ℕ) (cs : List ℕ) (h : Has p k r cs) where
   pub has-key : keyIn p cs r ≡ k
   has-key = h .ok .tied k r (h .pos) (h .at) .key
 
-  has-state : state p cs k ≡ recordState p cs r
+  pub has-state : state p cs k ≡ recordState p cs r
   has-state = state-has p cs k r (h .at)
 
-  has-live : Live (arenaAt p) (p .most) r cs
-  has-live = record { ar = h .ok .ar; low = h .low; live = rw has-key (h .pos) }
+  pub has-live : 0 < keyIn p cs r
+  has-live = rw has-key (h .pos)
+
+  pub has-record : Live (arenaAt p) (p .most) r cs
+  has-record = record { ar = h .ok .ar; low = h .low; live = has-live }
 
   pub has-get : (f : ℕ) → f < 8 → Within (arenaAt p) (p .most) r f cs
-  has-get f b = can-get p r f cs (h .ok) (rw has-key (h .pos)) b
+  has-get f b = can-get p r f cs (h .ok) has-live b
 
   pub can-put : (f : ℕ) → 0 < f → f < 8 → CanPut (arenaAt p) (p .most) r f cs
-  can-put f a b = record { at = has-live; some = a; few = b }
+  can-put f a b = record { at = has-record; some = a; few = b }
 
   pub count-is : (v : ℕ) → v ≡ field (arenaAt p) cs r 1 → v ≡ state p cs k .count
   unfolding recordState
@@ -97,7 +100,7 @@ module _ (p : Pairs) (k r : ℕ) (cs : List ℕ) (h : Has p k r cs) where
         (λ m. long-fits p cs r (h .ok) (long m)) (λ m j a. x .only .kept .same _ (inr (omega arith)))
       where
         long : 4 < many p cs r → Long p cs r
-        long m = record { low = h .low; live = rw has-key (h .pos); long = m }
+        long m = record { low = h .low; live = has-live; long = m }
 
     put-run : Long p ds r → Run p ds r
     put-run l =

@@ -6,7 +6,7 @@ use Prim.Native.Nat.{ℕ, zero, suc, _+_, _<_, _≤_}
 use native.Mathlib.Omega.{arith}
 use lib.ListN.{length, length-map}
 use Rattle.runs.specs.Parts.{nth, part, Kept}
-use Rattle.runs.proofs.Parts.{length-part, nth-part, part-more, nth-ext}
+use Rattle.runs.proofs.Parts.{length-part, nth-part, part-none, part-more, nth-ext}
 use Rattle.states.specs.State.{State}
 use Rattle.states.specs.Tracking.{Touching}
 use Rattle.pairs.specs.View.{behind, recordOf, keyIn, state}
@@ -21,6 +21,10 @@ nth-map f (x ∷ l) zero h = refl
 nth-map f (x ∷ l) (suc j) h = nth-map f l j (omega arith)
 
 -- THE KEYS OF A LIST
+pub keys-none : (p : Pairs) (cs : List ℕ) → keysOf p 0 cs ≡ []
+unfolding keysOf
+keys-none p cs = ap (map (keyIn p cs)) (part-none (behind p) cs)
+
 module _ (p : Pairs) (n : ℕ) (cs : List ℕ) where
   pub keys-length : behind p + n ≤ length cs → length (keysOf p n cs) ≡ n
   unfolding keysOf

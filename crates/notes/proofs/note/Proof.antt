@@ -1,11 +1,11 @@
 -- `notes::note` meets its contract: nothing where the word was noted last, else it is put behind the others.
 use borrow.Author.Needs.{needs}
-use Rattle.notes.proofs.Reading.{has-within}
+use Rattle.pairs.proofs.Fields.{has-get}
 use Rattle.notes.proofs.Adding.{noted-seen, noted-new, can-short, can-long}
 use Rattle.notes.proofs.note.Statement.{statement}
 use Rattle.notes.proofs.note.Tie as tie
 
-ruleset laws = (has-within, noted-seen, noted-new, can-short, can-long, needs)
+ruleset laws = (has-get, noted-seen, noted-new, can-short, can-long, needs)
 
 seen-requires : tie.Need-seen-requires
 seen-requires c κs = search laws

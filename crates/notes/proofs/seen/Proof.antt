@@ -1,10 +1,11 @@
 -- `notes::seen` meets its contract: the last of n words is the one at n - 1.
 use borrow.Author.Needs.{needs}
-use Rattle.notes.proofs.Reading.{has-within, seen-none, seen-some, last-low}
+use Rattle.pairs.proofs.Fields.{has-get}
+use Rattle.lists.proofs.Reading.{seen-none, seen-some, last-low}
 use Rattle.notes.proofs.seen.Statement.{statement}
 use Rattle.notes.proofs.seen.Tie as tie
 
-ruleset laws = (has-within, seen-none, seen-some, last-low, needs)
+ruleset laws = (has-get, seen-none, seen-some, last-low, needs)
 
 mul-get-field : tie.Need-mul-get-field
 mul-get-field c = search laws

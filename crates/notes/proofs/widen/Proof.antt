@@ -1,12 +1,12 @@
 -- `notes::widen` meets its contract: four words leave the record, a full run is left for one twice as large.
 use borrow.Author.Needs.{needs}
 use native.Mathlib.Omega.{arith}
-use Rattle.notes.proofs.Reading.{has-within}
+use Rattle.pairs.proofs.Fields.{has-get}
 use Rattle.notes.proofs.Moving.{can-spill, ready-spilled, ready-same, can-grow, ready-grown}
 use Rattle.notes.proofs.widen.Statement.{statement}
 use Rattle.notes.proofs.widen.Tie as tie
 
-ruleset laws = (has-within, can-spill, ready-spilled, ready-same, ready-grown, needs)
+ruleset laws = (has-get, can-spill, ready-spilled, ready-same, ready-grown, needs)
 
 mul-at : tie.Need-mul-at
 mul-at c = search laws

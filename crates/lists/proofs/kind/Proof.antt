@@ -1,8 +1,8 @@
--- `notes::kind` meets its contract: the test tells which kind.
+-- `lists::kind` meets its contract: the test tells which kind.
 use borrow.Author.Needs.{needs}
-use Rattle.notes.proofs.Reading.{kind-short, kind-long}
-use Rattle.notes.proofs.kind.Statement.{statement}
-use Rattle.notes.proofs.kind.Tie as tie
+use Rattle.lists.proofs.Reading.{kind-short, kind-long}
+use Rattle.lists.proofs.kind.Statement.{statement}
+use Rattle.lists.proofs.kind.Tie as tie
 
 ruleset laws = (kind-short, kind-long, needs)
 

@@ -15,10 +15,11 @@ use Rattle.states.specs.State.{State, lastIs}
 use Rattle.pairs.specs.View.{arenaAt, dataAt, keyIn, many, place, wordsOf, recordState, state}
 use Rattle.pairs.specs.Pairs.{Long, Has}
 use Rattle.pairs.specs.declared.Pairs.{Pairs}
-use Rattle.pairs.proofs.Moves.{state-has, long-fits, field-low}
-use Rattle.notes.specs.Notes.{kindOf, lengthOf, listed, Loaded}
-use Rattle.notes.specs.declared.WordList.{WordList}
-use Rattle.notes.specs.declared.WordList.the-variants.{Short, Spilled}
+use Rattle.pairs.proofs.Moves.{long-fits, field-low}
+use Rattle.pairs.proofs.Fields.{has-live, has-state}
+use Rattle.lists.specs.Lists.{kindOf, lengthOf, listed, Loaded}
+use Rattle.lists.specs.declared.WordList.{WordList}
+use Rattle.lists.specs.declared.WordList.the-variants.{Short, Spilled}
 
 pub kind-short : (n at : ℕ) → n ≤ 4 → Short n ≡ kindOf n at
 unfolding kindOf
@@ -40,27 +41,12 @@ live-within base n r f cs l h =
 
 -- A RECORD THAT IS HAD
 module _ (p : Pairs) (k r : ℕ) (cs : List ℕ) (h : Has p k r cs) where
-  pub has-key : keyIn p cs r ≡ k
-  has-key = h .ok .tied k r (h .pos) (h .at) .key
-
-  pub has-live : 0 < keyIn p cs r
-  has-live = rw has-key (h .pos)
-
-  pub has-record : Live (arenaAt p) (p .most) r cs
-  has-record = record { ar = h .ok .ar; low = h .low; live = has-live }
-
-  pub has-within : (f : ℕ) → f < 8 → Within (arenaAt p) (p .most) r f cs
-  has-within f b = live-within (arenaAt p) (p .most) r f cs has-record b
-
   pub has-long : 4 < many p cs r → Long p cs r
-  has-long f = record { low = h .low; live = has-live; long = f }
-
-  pub has-state : state p cs k ≡ recordState p cs r
-  has-state = state-has p cs k r (h .at)
+  has-long f = record { low = h .low; live = has-live p k r cs h; long = f }
 
   has-words : state p cs k .words ≡ wordsOf p cs r
   unfolding recordState
-  has-words = ap (λ (s : State). s .words) has-state
+  has-words = ap (λ (s : State). s .words) (has-state p k r cs h)
 
   pub words-short : many p cs r ≤ 4 → state p cs k .words ≡ part (arenaAt p + 3 + r * 8 + 4) (many p cs r) cs
   unfolding wordsOf
@@ -126,7 +112,7 @@ module _ (p : Pairs) (k r : ℕ) (cs : List ℕ) (h : Has p k r cs) where
         (λ z. let i : j ≡ 3 = omega arith in rw i (ed ∙ at 3))))
       where
         at : (i : ℕ) → field (arenaAt p) cs r (4 + i) ≡ nth cs (arenaAt p + 3 + r * 8 + 4 + i)
-        at i = sym (near-cell p r cs has-live i)
+        at i = sym (near-cell p r cs (has-live p k r cs h) i)
 
     near-words : n ≤ 4 → part 0 n (a ∷ (b ∷ (c ∷ (d ∷ [])))) ≡ part (arenaAt p + 3 + r * 8 + 4) n cs
     near-words f =

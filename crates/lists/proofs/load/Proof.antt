@@ -1,10 +1,11 @@
--- `notes::load` meets its contract: five fields, the count and the marks are the state by value.
+-- `lists::load` meets its contract: five fields, the count and the marks are the state by value.
 use borrow.Author.Needs.{needs}
-use Rattle.notes.proofs.Reading.{has-within, loaded}
-use Rattle.notes.proofs.load.Statement.{statement}
-use Rattle.notes.proofs.load.Tie as tie
+use Rattle.pairs.proofs.Fields.{has-get}
+use Rattle.lists.proofs.Reading.{loaded}
+use Rattle.lists.proofs.load.Statement.{statement}
+use Rattle.lists.proofs.load.Tie as tie
 
-ruleset laws = (has-within, loaded, needs)
+ruleset laws = (has-get, loaded, needs)
 
 mul-at : tie.Need-mul-at
 mul-at c = search laws

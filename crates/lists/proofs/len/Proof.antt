@@ -1,8 +1,8 @@
--- `notes::len` meets its contract: a list holds its number.
+-- `lists::len` meets its contract: a list holds its number.
 use borrow.Author.Needs.{needs}
-use Rattle.notes.specs.Notes.{lengthOf}
-use Rattle.notes.proofs.len.Statement.{statement}
-use Rattle.notes.proofs.len.Tie as tie
+use Rattle.lists.specs.Lists.{lengthOf}
+use Rattle.lists.proofs.len.Statement.{statement}
+use Rattle.lists.proofs.len.Tie as tie
 
 enum-known-words : tie.Need-enum-known-words
 enum-known-words c = search needs

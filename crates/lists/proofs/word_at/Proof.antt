@@ -1,11 +1,12 @@
--- `notes::word_at` meets its contract: a short list stands in the record, a long one in its run.
+-- `lists::word_at` meets its contract: a short list stands in the record, a long one in its run.
 use borrow.Author.Needs.{needs}
 use native.Mathlib.Omega.{arith}
-use Rattle.notes.proofs.Reading.{has-within, word-short, word-long, long-room, short-room}
-use Rattle.notes.proofs.word_at.Statement.{statement}
-use Rattle.notes.proofs.word_at.Tie as tie
+use Rattle.pairs.proofs.Fields.{has-get}
+use Rattle.lists.proofs.Reading.{word-short, word-long, long-room, short-room}
+use Rattle.lists.proofs.word_at.Statement.{statement}
+use Rattle.lists.proofs.word_at.Tie as tie
 
-ruleset laws = (has-within, word-short, word-long, short-room, needs)
+ruleset laws = (has-get, word-short, word-long, short-room, needs)
 
 mul-at : tie.Need-mul-at
 mul-at c = search laws

@@ -1,0 +1,2 @@
+-- The laws of `lists`.
+pub mod Reading
