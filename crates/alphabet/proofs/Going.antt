@@ -1,11 +1,10 @@
 -- Interning a list of spellings in a loop: start, turn, ways out; of the byte values, and of a table's parts. Assumes nothing.
-use mathlib.Core.Path.{_≡_, refl, sym, ap, _∙_}
-use mathlib.Core.Bool.{true}
+use mathlib.Core.Path.{_≡_, sym, ap, _∙_}
 use mathlib.Core.List.{List, [], _∷_, _++_, append-nil, foldl}
-use Prim.Native.Nat.{ℕ, zero, suc, _+_, _*_, _-_, _/_, _<_, _≤_}
+use Prim.Native.Nat.{ℕ, suc, _+_, _*_, _-_, _/_, _<_, _≤_}
 use native.Mathlib.Omega.{arith}
 use lib.ListN.{length, take, drop}
-use Rattle.runs.specs.Parts.{nth, part, Kept}
+use Rattle.runs.specs.Parts.{nth}
 use Rattle.runs.proofs.Parts.{part-lent}
 use Rattle.runs.proofs.Frames.{kept-none, kept-then}
 use Rattle.numbers.specs.Little.{numbers}
@@ -15,7 +14,7 @@ use Rattle.rule.specs.Seeding.{intern, byteValues}
 use Rattle.vocab.specs.Places.{numbersFrom}
 use Rattle.vocab.proofs.Places.{parts-start, parts-step, parts-end}
 use Rattle.intern.specs.Pieces.{pieces}
-use Rattle.intern.specs.Intern.{Pieces, CanIntern, Answer, Gave}
+use Rattle.intern.specs.Intern.{CanIntern, Answer, Gave}
 use Rattle.intern.specs.Many.{Ran, Exceed}
 use Rattle.intern.specs.declared.Interned.{Interned}
 use Rattle.intern.specs.declared.Interned.the-variants as found

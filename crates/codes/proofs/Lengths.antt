@@ -102,7 +102,7 @@ module _ (p e m : List ℕ) (i a b : ℕ) (x y : List ℕ) (ea : a ≡ leftOf m 
         let l = length-lines-step p e m count i h in
         inv ∙ same-test (length (linesTo p e m count i)) rest (length (linesTo p e m count (i + 1))) (rest - 2 - length x - length y) (λ g. omega (arith, k, length-line, l)) (λ g. omega (arith, k, length-line, l))
 
--- a line that fits can be taken off
+-- a line that fits can be taken off; the spellings are named by what `piece` says of them
 pub taken-off : (p e : List ℕ) (a b : ℕ) (x y : List ℕ) → x ≡ pieceGiven p e a → y ≡ pieceGiven p e b
     → (rest : ℕ) (t : Bool) → t ≡ leb (length x + (length y + 2)) rest → not t ≡ false → length x + (length y + 2) ≤ rest
 taken-off p e a b x y ex ey rest t q n = leb-true (length x + (length y + 2)) rest (sym q ∙ not-false t n)

@@ -7,10 +7,10 @@ use native.Mathlib.Omega.{arith}
 use lib.ListN.{length}
 use Rattle.runs.specs.Parts.{nth, laid, zeros, Kept}
 use Rattle.runs.proofs.Parts.{same-or-not, length-zeros, nth-zeros, length-laid, nth-laid}
-use Rattle.index.specs.Index.{keyAt, valueAt, home, slot, value, vacant, idle, Index, Set, Empty, Inserted, Erased, SameIndex}
+use Rattle.numbers.proofs.Ring.{blanks-same, blanks-all, blanks-lt}
+use Rattle.index.specs.Index.{keyAt, valueAt, home, slot, value, vacant, idle, Index, Set, Empty, Inserted, SameIndex}
 use Rattle.index.specs.declared.Found.{Found}
 use Rattle.index.specs.declared.Found.the-variants.{At, Vacant, Full}
-use Rattle.index.proofs.Blanks.{blanks-same, blanks-le, blanks-all, blanks-lt}
 use Rattle.index.proofs.Probes.{probe-same}
 use Rattle.index.proofs.Slots.{key-cell, value-cell, home-lt, value-at, value-vacant, value-full, value-none, slot-at, value-same}
 
@@ -108,7 +108,7 @@ pub set-single : {base cap k v : ℕ} {was is-now is-too : List ℕ} → Set bas
 set-single {base} {cap} {k} {v} {was} {is-now} {is-too} p r q =
     same-or-not q k (λ e. rw e (p .here ∙ sym (r .here))) (λ n. p .others q n ∙ sym (r .others q n))
 
--- HOW MANY INSERTS THERE IS SPACE FOR: after m of them at most m slots are taken, whatever was erased between them
+-- HOW MANY INSERTS THERE IS SPACE FOR: after m of them at most m slots are taken. What is erased between them leaves its slot taken
 module _ (base cap m : ℕ) (was is : List ℕ) where
   pub spent-start : Empty base cap was → cap ≤ vacant base cap was + 0
   spent-start e = omega (arith, e .spent)
@@ -116,21 +116,14 @@ module _ (base cap m : ℕ) (was is : List ℕ) where
   pub spent-insert : (k v : ℕ) → cap ≤ vacant base cap was + m → Inserted base cap k v was is → cap ≤ vacant base cap is + (m + 1)
   spent-insert k v h i = omega (arith, h, i .most)
 
-  pub spent-erase : (k : ℕ) → cap ≤ vacant base cap was + m → Erased base cap k was is → cap ≤ vacant base cap is + m
-  spent-erase k h e = omega (arith, h, e .spent)
-
   pub spent-same : cap ≤ vacant base cap was + m → SameIndex base cap was is → cap ≤ vacant base cap is + m
   spent-same h s = omega (arith, h, s .spent)
 
   pub spent-space : cap ≤ vacant base cap was + m → m < cap → 0 < vacant base cap was
   spent-space h l = omega arith
 
--- HOW MANY HAVE NO VALUE: as many as are vacant, and not all where a key has one
+-- HOW MANY HAVE NO VALUE: not all, where a key has one
 module _ (base cap : ℕ) (cs : List ℕ) (ix : Index base cap cs) where
-  pub vacant-idle : vacant base cap cs ≤ idle base cap cs
-  unfolding vacant idle
-  vacant-idle = blanks-le cap (keyAt base cs) (valueAt base cs) (ix .bare)
-
   pub idle-lt : (k : ℕ) → 0 < value base cap cs k → idle base cap cs < cap
   unfolding idle
   idle-lt k p = go (slot base cap cs k) refl

@@ -1,5 +1,4 @@
 -- The laws of `index`.
-pub mod Blanks
 pub mod Probes
 pub mod Slots
 pub mod Puts

@@ -1,56 +1,13 @@
 -- The laws of `probe`: what it finds, that it meets a vacant slot where there is one, and what a vacant slot filled does to it. Assumes nothing.
 use mathlib.Core.Path.{_≡_, refl, sym, ap, _∙_}
-use mathlib.Core.Logic.{_⊎_, inl, inr}
-use Prim.Native.Nat.{ℕ, zero, suc, _+_, _<_, _≤_}
+use Prim.Native.Nat.{ℕ, zero, suc, _<_}
 use native.Mathlib.Omega.{arith}
 use borrow.Author.Tests.{eq-eqb, ne-eqb}
-use Rattle.runs.proofs.Parts.{same-or-not, below-or-not}
-use Rattle.index.specs.Probe.{after, probe}
+use Rattle.runs.proofs.Parts.{same-or-not}
+use Rattle.numbers.specs.Ring.{after}
+use Rattle.numbers.proofs.Ring.{after-lt, Ahead, ahead-none, ahead-next, ahead-all}
+use Rattle.index.specs.Probe.{probe}
 use Rattle.index.specs.declared.Found.the-variants.{At, Vacant, Full}
-
--- THE SLOT AFTER ANOTHER
-
-pub after-last : (cap i : ℕ) → i + 1 ≡ cap → 0 ≡ after cap i
-unfolding after
-after-last cap i e = rw (eq-eqb (i + 1) cap e)
-
-pub after-more : (cap i : ℕ) → (i + 1 ≡ cap → ⊥) → i + 1 ≡ after cap i
-unfolding after
-after-more cap i n = rw (ne-eqb (i + 1) cap n)
-
-pub after-lt : (cap i : ℕ) → i < cap → after cap i < cap
-after-lt cap i h =
-    same-or-not (i + 1) cap
-    (λ e. rw (← after-last cap i e) (omega arith))
-    (λ n. rw (← after-more cap i n) (omega arith))
-
--- n slots from i on have the slot e, past the last or not
-unfoldable Ahead : ℕ → ℕ → ℕ → ℕ → Type 0
-Ahead cap e n i = ((i ≤ e) × (e < i + n)) ⊎ ((e < i) × (e + cap < i + n))
-
-ahead-none : (cap e i : ℕ) → i < cap → Ahead cap e 0 i → ⊥
-unfolding Ahead
-ahead-none cap e i h (inl a) = omega arith
-ahead-none cap e i h (inr a) = omega arith
-
-ahead-next : (cap e n i : ℕ) → e < cap → i < cap → (i ≡ e → ⊥) → Ahead cap e (suc n) i → Ahead cap e n (after cap i)
-unfolding Ahead
-ahead-next cap e n i h k w a =
-    same-or-not (i + 1) cap
-    (λ q. rw (← after-last cap i q) (last q a))
-    (λ q. rw (← after-more cap i q) (more a))
-  where
-    last : i + 1 ≡ cap → Ahead cap e (suc n) i → Ahead cap e n 0
-    last q (inl p) = absurd (omega arith)
-    last q (inr p) = inl (omega arith, omega arith)
-
-    more : Ahead cap e (suc n) i → Ahead cap e n (i + 1)
-    more (inl p) = inl (omega arith, omega arith)
-    more (inr p) = inr (omega arith, omega arith)
-
-ahead-all : (cap e i : ℕ) → e < cap → i < cap → Ahead cap e cap i
-unfolding Ahead
-ahead-all cap e i h k = below-or-not e i (λ p. inr (omega arith, omega arith)) (λ p. inl (omega arith, omega arith))
 
 -- ONE PROBE, by what stands in the slot
 module _ (f : ℕ → ℕ) (cap k n i : ℕ) where

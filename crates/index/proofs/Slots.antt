@@ -7,11 +7,12 @@ use borrow.Author.Tests.{lt-ltb, le-ltb}
 use native.Mathlib.Nat.{mul-le-mul, mul-lt-mul-of-pos-right}
 use Rattle.runs.specs.Parts.{nth}
 use Rattle.runs.proofs.Parts.{same-or-not, below-or-not}
-use Rattle.index.specs.Probe.{after, probe}
+use Rattle.numbers.specs.Ring.{after}
+use Rattle.numbers.proofs.Ring.{blanks-some}
+use Rattle.index.specs.Probe.{probe}
 use Rattle.index.specs.Index.{keyAt, valueAt, mix, row, home, slot, valueOf, value, vacant, Index}
 use Rattle.index.specs.declared.Found.{Found}
 use Rattle.index.specs.declared.Found.the-variants.{At, Vacant, Full}
-use Rattle.index.proofs.Blanks.{blanks-some}
 use Rattle.index.proofs.Probes.{probe-at, probe-vacant, probe-next, probe-none, probe-finds, probe-finds-vacant, never-full}
 
 -- WHERE A SLOT STANDS
@@ -69,12 +70,9 @@ pub find-start : (base cap k s : ℕ) (cs : List ℕ) → s ≡ home cap k → s
 unfolding slot
 find-start base cap k s cs e = rw e
 
-pred : (n : ℕ) → 0 < n → n ≡ suc (n - 1)
-pred n h = omega arith
-
 module _ (base cap k n i x : ℕ) (cs : List ℕ) (r : Found) where
   first : r ≡ probe (keyAt base cs) cap k n i → 0 < n → r ≡ probe (keyAt base cs) cap k (suc (n - 1)) i
-  first inv some = inv ∙ ap (λ (m : ℕ). probe (keyAt base cs) cap k m i) (pred n some)
+  first inv some = let e : n ≡ suc (n - 1) = omega arith in inv ∙ ap (λ (m : ℕ). probe (keyAt base cs) cap k m i) e
 
   key-is : x ≡ nth cs (base + 2 * i) → x ≡ keyAt base cs i
   key-is e = e ∙ sym (key-cell base cs i)

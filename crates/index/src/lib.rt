@@ -7,7 +7,7 @@
 ghost use mathlib.Core.Path.{_≡_};
 ghost use Prim.Native.Nat.{_<_, _≤_};
 ghost use Rattle.numbers.specs.Cells.{cells};
-ghost use Rattle.index.specs.Probe.{after};
+ghost use Rattle.numbers.specs.Ring.{after};
 ghost use Rattle.index.specs.Index.{mix, home, slot, value, Index, CanInsert, Inserted, CanErase, Erased, AtSlot, NewSlot, PutValue, PutKey};
 
 // What a lookup finds: the key's slot, the vacant slot where it would go, or neither.

@@ -15,19 +15,20 @@ use Rattle.runs.proofs.Frames.{kept-none, kept-wide}
 use Rattle.runs.proofs.Ordered.{same-true, same-refl}
 use Rattle.numbers.specs.Little.{store}
 use Rattle.numbers.specs.Cells.{cells, Put}
+use Rattle.numbers.specs.Ring.{after}
 use Rattle.numbers.proofs.Cells.{length-cells}
+use Rattle.numbers.proofs.Ring.{blanks-less, blanks-some}
 use Rattle.rule.specs.Seeding.{numberOf}
 use Rattle.rule.specs.Layout.{pieceStart, pieceAt}
 use Rattle.rule.proofs.Seeding.{Has, found}
 use Rattle.spelling.specs.Writing.{Written}
 use Rattle.spells.specs.Hash.{hashOf}
 use Rattle.intern.specs.Pieces.{pieces}
-use Rattle.intern.specs.Seek.{numberIn, after, seek}
+use Rattle.intern.specs.Seek.{numberIn, seek, vacancies}
 use Rattle.intern.specs.Intern.{spelt, look, Known, Pieces, CanAdd, Gave, Left}
 use Rattle.intern.specs.declared.Found.{Found}
 use Rattle.intern.specs.declared.Found.the-variants.{At, Vacant, Full}
-use Rattle.intern.proofs.Vacant.{vacancies-less, vacancies-some, ahead-all}
-use Rattle.intern.proofs.Seek.{seek-vacant, seek-at, seek-next, seek-none, seek-finds, seek-vacant-is, seek-not-full, seek-test, seek-still, seek-new}
+use Rattle.intern.proofs.Seek.{apart-at-vacant, same-at, seek-vacant, seek-at, seek-next, seek-none, seek-finds, seek-vacant-is, never-full, seek-test, seek-still, seek-new}
 use Rattle.intern.proofs.Rooms.{piece-lent, kept-store, length-pieces, pieces-at, pieces-same, pieces-more, more-bytes, more-ends, more-old, more-new, more-held}
 use Rattle.intern.proofs.Lists.{has-at, intern-old, intern-new, number-new}
 
@@ -84,12 +85,6 @@ pub slot-number : (base cap n u i x : ℕ) (cs xs ys : List ℕ) → Pieces base
     → (0 < x % 4294967296) × (x % 4294967296 ≤ n)
 slot-number base cap n u i x cs xs ys p h e z = rw e (p .known .numbers i h (omega (arith, e)))
 
-same-number : (k m : ℕ) → At k ≡ At m → k ≡ m
-same-number k m e = cc
-
-clash : {P : Type 0} (k j : ℕ) → At k ≡ Vacant j → P
-clash k j e = let z : _≡_ {A = ℕ} 0 1 = cc in absurd (omega arith)
-
 -- A SPELLING THAT IS KNOWN
 
 module _ (base cap n u : ℕ) (s cs xs ys : List ℕ) (p : Pieces base cap n u cs xs ys) where
@@ -117,15 +112,14 @@ module _ (base cap n u : ℕ) (s cs xs ys : List ℕ) (p : Pieces base cap n u c
       let l = length-pieces xs ys n in
       let m = numberOf (pieces xs ys n) s in
       let h : m < n = omega (arith, f .within) in
-      same-number k m (sym e ∙ finds m h (sym (pieces-at xs ys n m h) ∙ f .spells))
+      same-at k m (sym e ∙ finds m h (sym (pieces-at xs ys n m h) ∙ f .spells))
 
   -- a lookup in a table with a vacant slot is never full
   pub look-not-full : n < cap → look base cap cs xs ys s ≡ Full → ⊥
-  unfolding look
+  unfolding look vacancies
   look-not-full h e =
-      let z = vacancies-some base cap cs (omega (arith, p .known .vacant)) in
-      let m = home-lt (hashOf s) cap (p .known .some) in
-      seek-not-full (spelt (hashOf s) s xs ys) cs base cap (z .at) (z .low) (z .is) cap (hashOf s % cap) m (ahead-all cap (z .at) (hashOf s % cap) (z .low) m) e
+      let z = blanks-some cap (λ (j : ℕ). nth cs (base + j)) (omega (arith, p .known .vacant)) in
+      never-full (spelt (hashOf s) s xs ys) cs base cap (z .at) (hashOf s % cap) (z .low) (z .is) (home-lt (hashOf s) cap (p .known .some)) e
 
   pub to-add : n < cap → (f : Found) (j : ℕ) → f ≡ look base cap cs xs ys s → f ≡ Vacant j → CanAdd base cap n u s j cs xs ys
   unfolding look
@@ -163,7 +157,7 @@ module _ (base cap n u : ℕ) (s : List ℕ) (j : ℕ) (rs xs ys : List ℕ) (c 
   absent k h e =
       let l = length-pieces xs ys n in
       let h′ : k < n = omega arith in
-      clash k j (sym (finds base cap n u s (cells rs) xs ys (c .ok) k h′ (sym (pieces-at xs ys n k h′) ∙ e)) ∙ c .none)
+      apart-at-vacant k j (sym (finds base cap n u s (cells rs) xs ys (c .ok) k h′ (sym (pieces-at xs ys n k h′) ∙ e)) ∙ c .none)
 
   pub left : Left n s rs xs ys rs xs ys
   left = record { room = refl; bytes = refl; ends = refl; more = intern-new (pieces xs ys n) s absent }
@@ -234,6 +228,7 @@ module _ (base cap n u : ℕ) (s : List ℕ) (j : ℕ) (rs xs ys : List ℕ) (c 
         cap (hashOf s % cap) (home-lt (hashOf s) cap (c .ok .known .some)) (as-before s ∙ c .none))
 
     known : Known base cap (n + 1) (cells qs) vs ws
+    unfolding vacancies
     known =
         let k = c .ok .known in
         record {
@@ -245,7 +240,7 @@ module _ (base cap n u : ℕ) (s : List ℕ) (j : ℕ) (rs xs ys : List ℕ) (c 
               (λ q. rw (q, here) (omega (arith, low), omega (arith, low)))
               (λ q. let w = k .numbers i l (omega (arith, others i l q)) in rw (others i l q) (w .0, omega (arith, w .1)));
           found = λ i l. same-or-not i n (λ q. rw q found-new) (λ q. found-old i (omega arith));
-          vacant = omega (arith, k .vacant, vacancies-less base cap (cells rs) (cells qs) j (c .slot) vacant-slot (omega (arith, here)) others);
+          vacant = omega (arith, k .vacant, blanks-less cap (λ (i : ℕ). nth (cells rs) (base + i)) (λ (i : ℕ). nth (cells qs) (base + i)) j (c .slot) vacant-slot (omega (arith, here)) others);
         }
 
     room : Kept (base * 8) ((base + cap) * 8) rs qs

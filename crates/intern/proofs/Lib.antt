@@ -1,5 +1,4 @@
 -- The laws of `intern`.
-pub mod Vacant
 pub mod Seek
 pub mod Rooms
 pub mod Lists

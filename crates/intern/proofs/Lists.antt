@@ -2,7 +2,7 @@
 use mathlib.Core.Path.{_≡_, refl, sym, ap, _∙_}
 use mathlib.Core.Bool.{Bool, true, false, cond, _||_}
 use mathlib.Core.List.{List, [], _∷_, _++_, append-assoc, append-nil, map, foldl, flatMap}
-use Prim.Native.Nat.{ℕ, zero, suc, _+_, _-_, _<_, _≤_}
+use Prim.Native.Nat.{ℕ, zero, suc, _+_, _<_, _≤_}
 use native.Mathlib.Omega.{arith}
 use native.Mathlib.Numerals.{add-one}
 use lib.ListN.{length, getD, length-append, List·getD-append}
@@ -86,7 +86,7 @@ interns-grow ps (s ∷ ss) =
 
 -- THE BYTE VALUES
 
-pub values-append : (m n b : ℕ) → byteValues (m + n) b ≡ byteValues m b ++ byteValues n (b + m)
+values-append : (m n b : ℕ) → byteValues (m + n) b ≡ byteValues m b ++ byteValues n (b + m)
 unfolding byteValues
 values-append zero n b = let z : 0 + n ≡ n = omega arith in let w : b + 0 ≡ b = omega arith in rw (z, w)
 values-append (suc m) n b =
@@ -99,7 +99,7 @@ unfolding byteValues
 one-value b = let z : 0 + b ≡ b = omega arith in rw z
 
 -- one more at the end, and those that are left behind it
-pub values-more : (b : ℕ) → byteValues b 0 ++ ((b ∷ []) ∷ []) ≡ byteValues (b + 1) 0
+values-more : (b : ℕ) → byteValues b 0 ++ ((b ∷ []) ∷ []) ≡ byteValues (b + 1) 0
 values-more b = sym (values-append b 1 0 ∙ ap (λ (l : List (List ℕ)). byteValues b 0 ++ l) (one-value b))
 
 head-same : (a b : ℕ) → _≡_ {A = List ℕ} (a ∷ []) (b ∷ []) → a ≡ b

@@ -10,13 +10,14 @@ use Rattle.runs.specs.Parts.{nth, part, Kept}
 use Rattle.runs.proofs.Parts.{part-none, part-split, length-part}
 use Rattle.runs.proofs.Frames.{kept-none, kept-then, kept-wide}
 use Rattle.numbers.specs.Cells.{cells}
+use Rattle.numbers.proofs.Ring.{blanks-all}
 use Rattle.rule.specs.Seeding.{intern, numberOf}
 use Rattle.rule.specs.Layout.{pieceBytes, pieceStart, pieceAt}
 use Rattle.rule.proofs.Seeding.{has-intern, interns-stay}
 use Rattle.intern.specs.Pieces.{pieces, Held}
+use Rattle.intern.specs.Seek.{vacancies}
 use Rattle.intern.specs.Intern.{Pieces, CanIntern, Gave, Lacks}
 use Rattle.intern.specs.Many.{Ran, Exceed}
-use Rattle.intern.proofs.Vacant.{vacancies-all}
 use Rattle.intern.proofs.Rooms.{start-first, piece-part, pieces-none, pieces-more, length-pieces}
 use Rattle.intern.proofs.Lists.{interns-append, bytes-more, length-bytes-more, interns-grow}
 
@@ -112,10 +113,6 @@ module _ (base cap n u : ℕ) (xs ys : List ℕ) where
     pub ran-cells : (ds : List ℕ) → Pieces base cap n′ u′ ds vs ws → Ran base cap n u ps ss xs ys ds vs ws n′ u′
     ran-cells ds p = on ps ss ss cs vs ws n′ u′ r ds vs ws n′ u′ p (r .are) (omega arith) (omega arith) (kept-none u′ u′ vs) (kept-none (n′ * 4) (n′ * 4) ws)
 
-  -- AT THE END these are the pieces
-  pub ran-end : (ps : List (List ℕ)) (cs vs ws : List ℕ) (n′ u′ : ℕ) → Ran base cap n u ps [] xs ys cs vs ws n′ u′ → pieces vs ws n′ ≡ ps
-  ran-end ps cs vs ws n′ u′ r = r .are
-
   module _ (ps : List (List ℕ)) (s : List ℕ) (ts : List (List ℕ)) (cs vs ws : List ℕ) (n′ u′ : ℕ) (r : Ran base cap n u ps (s ∷ ts) xs ys cs vs ws n′ u′) where
     module _ (rs qs vs₂ ws₂ : List ℕ) (k n₂ u₂ : ℕ) (g : Gave base cap n′ u′ s rs vs ws qs vs₂ ws₂ k n₂ u₂) where
       next : foldl intern (pieces vs₂ ws₂ n₂) ts ≡ ps
@@ -173,6 +170,7 @@ module _ (base cap n u : ℕ) (xs ys : List ℕ) where
 -- WHERE IT STARTS: cells of 0 are a table of no pieces
 pub pieces-empty : (base cap : ℕ) (cs xs ys : List ℕ) → base + cap ≤ length cs → length cs < 2 ^ 61 → 0 < cap → cap < 4294967296
     → ((j : ℕ) → j < cap → nth cs (base + j) ≡ 0) → Pieces base cap 0 0 cs xs ys
+unfolding vacancies
 pieces-empty base cap cs xs ys room small some few f =
     let e : pieceStart ys 0 ≡ 0 = sym (start-first ys 0 refl) in
     record {
@@ -191,6 +189,6 @@ pieces-empty base cap cs xs ys room small some few f =
         few = few;
         numbers = λ j h p. absurd (omega (arith, f j h));
         found = λ k h. absurd (omega arith);
-        vacant = omega (arith, vacancies-all base cap cs f);
+        vacant = omega (arith, blanks-all cap (λ (j : ℕ). nth cs (base + j)) f);
       };
     }

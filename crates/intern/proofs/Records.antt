@@ -1,5 +1,5 @@
 -- What the ends room holds: "piece ends (4 bytes)" of the pieces that are there. Assumes nothing.
-use mathlib.Core.Path.{_≡_, refl, sym, ap, _∙_}
+use mathlib.Core.Path.{_≡_, sym, ap, _∙_}
 use mathlib.Core.List.{List, [], _∷_, _++_, flatMap}
 use Prim.Native.Nat.{ℕ, zero, suc, _+_, _*_, _-_, _<_, _≤_}
 use native.Mathlib.Omega.{arith}
@@ -13,7 +13,7 @@ use Rattle.rule.specs.Shapes.{spellAll, endsFrom}
 use Rattle.rule.specs.Layout.{pieceBytes, pieceRecords, pieceStart, pieceAt}
 use Rattle.rule.proofs.Lengths.{spellAll-last}
 use Rattle.intern.specs.Pieces.{pieces, Held}
-use Rattle.intern.proofs.Rooms.{start-later, pieces-none, pieces-more}
+use Rattle.intern.proofs.Rooms.{start-later, pieces-more}
 use Rattle.intern.proofs.Lists.{length-bytes-more}
 use Rattle.intern.proofs.Many.{flat}
 

@@ -7,13 +7,11 @@ use native.Mathlib.Omega.{arith}
 use borrow.Author.Tests.{eq-eqb, ne-eqb}
 use Rattle.runs.specs.Parts.{nth}
 use Rattle.runs.proofs.Parts.{same-or-not}
-use Rattle.intern.specs.Seek.{numberIn, after, seek}
+use Rattle.numbers.specs.Ring.{after}
+use Rattle.numbers.proofs.Ring.{after-lt, Ahead, ahead-none, ahead-next, ahead-all}
+use Rattle.intern.specs.Seek.{numberIn, seek}
 use Rattle.intern.specs.declared.Found.{Found}
 use Rattle.intern.specs.declared.Found.the-variants.{At, Vacant, Full}
-use Rattle.intern.proofs.Vacant.{after-lt, Ahead, ahead-none, ahead-next}
-
-pred : (n : ℕ) → 0 < n → n ≡ suc (n - 1)
-pred n h = omega arith
 
 -- ONE PROBE, by what stands in the slot
 module _ (t : ℕ → Bool) (cs : List ℕ) (base cap n i : ℕ) where
@@ -45,7 +43,7 @@ probe-none t cs base cap i = refl
 -- THE LOOP: r is what the whole lookup finds, x the slot's cell
 module _ (t : ℕ → Bool) (cs : List ℕ) (base cap n i x : ℕ) (r : Found) where
   first : r ≡ seek t cs base cap n i → 0 < n → r ≡ seek t cs base cap (suc (n - 1)) i
-  first inv some = inv ∙ ap (λ (m : ℕ). seek t cs base cap m i) (pred n some)
+  first inv some = let e : n ≡ suc (n - 1) = omega arith in inv ∙ ap (λ (m : ℕ). seek t cs base cap m i) e
 
   pub seek-vacant : r ≡ seek t cs base cap n i → 0 < n → x ≡ nth cs (base + i) → x ≡ 0 → Vacant i ≡ r
   seek-vacant inv some e h = sym (first inv some ∙ probe-vacant t cs base cap (n - 1) i (sym e ∙ h))
@@ -73,7 +71,7 @@ pub record Hit (t : ℕ → Bool) (cs : List ℕ) (base cap k : ℕ) : Type 0 wh
   pub yes : t (nth cs (base + at)) ≡ true
 
 -- two answers are not one
-apart-at-vacant : {P : Type 0} (k j : ℕ) → At k ≡ Vacant j → P
+pub apart-at-vacant : {P : Type 0} (k j : ℕ) → At k ≡ Vacant j → P
 apart-at-vacant k j e = let z : _≡_ {A = ℕ} 0 1 = cc in absurd (omega arith)
 
 apart-at-full : {P : Type 0} (k : ℕ) → At k ≡ Full → P
@@ -82,7 +80,7 @@ apart-at-full k e = let z : _≡_ {A = ℕ} 0 1 = cc in absurd (omega arith)
 apart-vacant-full : {P : Type 0} (j : ℕ) → Vacant j ≡ Full → P
 apart-vacant-full j e = let z : _≡_ {A = ℕ} 0 1 = cc in absurd (omega arith)
 
-same-at : (k m : ℕ) → At k ≡ At m → k ≡ m
+pub same-at : (k m : ℕ) → At k ≡ At m → k ≡ m
 same-at k m e = cc
 
 same-vacant : (k m : ℕ) → Vacant k ≡ Vacant m → k ≡ m
@@ -113,14 +111,17 @@ module _ (t : ℕ → Bool) (cs : List ℕ) (base cap : ℕ) where
       (λ z y. apart-at-vacant (numberIn (nth cs (base + i))) j (sym (probe-at t cs base cap n i z y) ∙ e))
       (λ z y. seek-vacant-is n (after cap i) j (after-lt cap i h) (sym (probe-next t cs base cap n i z y) ∙ e))
 
-  -- a lookup that passes a vacant slot is not full
-  pub seek-not-full : (v : ℕ) → v < cap → nth cs (base + v) ≡ 0 → (n i : ℕ) → i < cap → Ahead cap v n i → seek t cs base cap n i ≡ Full → ⊥
+  -- a lookup that has a vacant slot before it is not full
+  seek-not-full : (v : ℕ) → v < cap → nth cs (base + v) ≡ 0 → (n i : ℕ) → i < cap → Ahead cap v n i → seek t cs base cap n i ≡ Full → ⊥
   seek-not-full v k z zero i h a e = ahead-none cap v i h a
   seek-not-full v k z (suc n) i h a e =
       cases t cs base cap n i
       (λ w. apart-vacant-full i (sym (probe-vacant t cs base cap n i w) ∙ e))
       (λ w y. apart-at-full (numberIn (nth cs (base + i))) (sym (probe-at t cs base cap n i w y) ∙ e))
       (λ w y. seek-not-full v k z n (after cap i) (after-lt cap i h) (ahead-next cap v n i k h (λ q. w (rw q z)) a) (sym (probe-next t cs base cap n i w y) ∙ e))
+
+  pub never-full : (v i : ℕ) → v < cap → nth cs (base + v) ≡ 0 → i < cap → seek t cs base cap cap i ≡ Full → ⊥
+  never-full v i k z h = seek-not-full v k z cap i h (ahead-all cap v i k h)
 
 -- a lookup asks the test only of slots that are not vacant
 pub seek-test : (t t′ : ℕ → Bool) (cs : List ℕ) (base cap : ℕ) → ((j : ℕ) → j < cap → 0 < nth cs (base + j) → t′ (nth cs (base + j)) ≡ t (nth cs (base + j)))

@@ -4,16 +4,13 @@ use mathlib.Core.List.{List}
 use Prim.Native.Nat.{ℕ, zero, suc, _+_, _-_, _%_}
 use lib.Dec.{eqb}
 use Rattle.runs.specs.Parts.{nth}
+use Rattle.numbers.specs.Ring.{after, blanks}
 use Rattle.intern.specs.declared.Found.{Found}
 use Rattle.intern.specs.declared.Found.the-variants.{At, Vacant, Full}
 
 -- the number in a slot
 abbrev pub numberIn : ℕ → ℕ
 numberIn x = x % 4294967296 - 1
-
--- the slot after i, the first after the last
-unfoldable pub after : ℕ → ℕ → ℕ
-after cap i = cond (eqb (i + 1) cap) 0 (i + 1)
 
 -- what n probes from the slot i on find: the number of a slot that passes the test, or the vacant slot where it would go
 unfoldable pub seek : (ℕ → Bool) → List ℕ → ℕ → ℕ → ℕ → ℕ → Found
@@ -22,7 +19,6 @@ seek t cs base cap (suc n) i =
     let x = nth cs (base + i) in
     cond (eqb x 0) (Vacant i) (cond (t x) (At (numberIn x)) (seek t cs base cap n (after cap i)))
 
--- of the n cells from `base` on, how many are vacant
+-- how many slots are vacant
 unfoldable pub vacancies : ℕ → ℕ → List ℕ → ℕ
-vacancies base zero cs = 0
-vacancies base (suc n) cs = cond (eqb (nth cs (base + n)) 0) 1 0 + vacancies base n cs
+vacancies base cap cs = blanks cap (λ j. nth cs (base + j))

@@ -11,9 +11,9 @@ ghost use Prim.Native.Nat.{_+_, _*_, _%_, _<_, _≤_};
 ghost use lib.ListN.{length};
 ghost use lib.Dec.{leb};
 ghost use Rattle.numbers.specs.Cells.{cells};
+ghost use Rattle.numbers.specs.Ring.{after};
 ghost use Rattle.rule.specs.Layout.{pieceStart};
 ghost use Rattle.intern.specs.Pieces.{Held};
-ghost use Rattle.intern.specs.Seek.{after};
 ghost use Rattle.intern.specs.Intern.{spelt, look, Pieces, CanIntern, CanAdd, Answer};
 
 // The end of a piece has 4 bytes.

@@ -1,3 +1,4 @@
 -- The laws of `numbers`.
 pub mod Little
 pub mod Cells
+pub mod Ring

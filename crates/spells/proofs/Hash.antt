@@ -2,7 +2,6 @@
 use mathlib.Core.Path.{_≡_, refl, sym, _∙_}
 use mathlib.Core.List.{List, [], _∷_, _++_}
 use Prim.Native.Nat.{ℕ, _+_, _*_, _%_, _<_, _≤_}
-use native.Mathlib.Omega.{arith}
 use native.Mathlib.Numerals.{add-one}
 use lib.ListN.{length, getD, drop, drop-of-length-le}
 use lib.Seq.{drop-cons}
@@ -33,13 +32,3 @@ hash-append h (x ∷ a) b = hash-append ((h * 16777619 + x) % 4294967296) a b
 pub hash-parts : (a b d : List ℕ) (x y z : ℕ) → x ≡ hashFrom 2166136261 a → y ≡ hashFrom x b → z ≡ hashFrom y d → z ≡ hashOf (a ++ (b ++ d))
 unfolding hashOf
 hash-parts a b d x y z e f g = g ∙ sym (hash-append 2166136261 a (b ++ d) ∙ hash-append (hashFrom 2166136261 a) b d ∙ rw (← e, ← f))
-
--- it has 32 bits
-pub hash-from-lt : (h : ℕ) (s : List ℕ) → h < 4294967296 → hashFrom h s < 4294967296
-unfolding hashFrom
-hash-from-lt h [] k = k
-hash-from-lt h (b ∷ s) k = hash-from-lt ((h * 16777619 + b) % 4294967296) s (omega arith)
-
-pub hash-lt : (s : List ℕ) → hashOf s < 4294967296
-unfolding hashOf
-hash-lt s = hash-from-lt 2166136261 s (omega arith)

@@ -1,2 +1,2 @@
--- The definitions of `step`.
+-- The definitions of `step`: one step of rewriting, and its reports.
 pub mod Step

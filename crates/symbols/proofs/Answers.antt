@@ -1,5 +1,5 @@
 -- What `merge_symbols` answers is document 01's verdict, what it leaves is document 01's outcome, and both are single. Assumes nothing.
-use mathlib.Core.Path.{_≡_, refl, sym, ap, _∙_}
+use mathlib.Core.Path.{_≡_, sym, ap, _∙_}
 use mathlib.Core.List.{List, [], _∷_}
 use mathlib.Core.Logic.{_≢_}
 use mathlib.Core.Option.{Option, none, some}
@@ -103,17 +103,18 @@ module _ (a b x : ℕ) where
 
 -- TWO OUTCOMES THAT THE CONTRACT ALLOWS ARE EQUAL
 
--- the verdict tells the answer
-above : (e : MergeError) → 0 < mergeErrorVerdict e .number
+-- a refusal has a number
+numbered : (e : MergeError) → 0 < mergeErrorVerdict e .number
 unfolding mergeErrorVerdict
-above BadShape = omega arith
-above ChangeRoom = omega arith
+numbered BadShape = omega arith
+numbered ChangeRoom = omega arith
 
+-- so the verdict tells the answer
 verdict-single : (m n : Merge) → verdictOf m ≡ verdictOf n → m ≡ n
 unfolding verdictOf
 verdict-single (Refused e) (Refused f) h = ap Refused (merge-one-to-one e f h)
-verdict-single (Refused e) (Done r k q) h = absurd (omega (arith, above e, ap (λ (v : Verdict). v .number) h))
-verdict-single (Done r k q) (Refused f) h = absurd (omega (arith, above f, ap (λ (v : Verdict). v .number) h))
+verdict-single (Refused e) (Done r k q) h = absurd (omega (arith, numbered e, ap (λ (v : Verdict). v .number) h))
+verdict-single (Done r k q) (Refused f) h = absurd (omega (arith, numbered f, ap (λ (v : Verdict). v .number) h))
 verdict-single (Done r k q) (Done r′ k′ q′) h =
     let z : r ∷ k ∷ q ∷ [] ≡ r′ ∷ k′ ∷ q′ ∷ [] = ap (λ (v : Verdict). v .gives) h in
     let er : r ≡ r′ = cc in

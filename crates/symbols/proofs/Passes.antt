@@ -22,7 +22,7 @@ use Rattle.step.specs.declared.Step.{Step}
 use Rattle.step.proofs.Steps.{decided}
 use Rattle.symbols.specs.Writing.{Writes, side, Wrote}
 use Rattle.symbols.specs.Merging.{Counting, Going, Rewrote}
-use Rattle.symbols.proofs.Writing.{writes-start, writes-long, writes-room, writes-turn, writes-ahead, writes-end, reports-append, longs}
+use Rattle.symbols.proofs.Writing.{writes-start, writes-long, writes-room, writes-turn, writes-ahead, writes-end, reports-append, length-sides}
 
 -- A SYMBOL, AND THE STEP AT A PLACE
 
@@ -59,7 +59,7 @@ pub two-off : (on : Bool) → on ≡ false → 0 ≡ 2 * bit on
 two-off on e = rw e
 
 tells-length : (a b x : ℕ) (st : Step) → length (reportsOf a b x st) ≡ 2 * bit (st .behind) + 2 * bit (st .ahead)
-tells-length a b x st = longs a b x st ∙ rw (one (st .behind) (st .previous) a (st .previous) x, one (st .ahead) b (st .next) x (st .next))
+tells-length a b x st = length-sides a b x st ∙ rw (one (st .behind) (st .previous) a (st .previous) x, one (st .ahead) b (st .next) x (st .next))
   where
     one : (c : Bool) (l r p q : ℕ) → length (side c l r p q) ≡ 2 * bit c
     one true l r p q = refl

@@ -3,7 +3,7 @@ use mathlib.Core.Path.{_≡_, refl, sym, ap, _∙_}
 use mathlib.Core.Bool.{Bool, true, false}
 use mathlib.Core.List.{List, [], _∷_, _++_, append-assoc, append-nil, flatMap}
 use mathlib.Core.Logic.{inr}
-use Prim.Native.Nat.{ℕ, _+_, _-_, _*_, _≤_}
+use Prim.Native.Nat.{ℕ, _+_, _*_, _≤_}
 use native.Mathlib.Omega.{arith}
 use lib.ListN.{length, take, drop, length-append, length-drop}
 use lib.Seq.{length-take-le, take-add, take-at, drop-at, drop-drop, take-all}
@@ -150,16 +150,16 @@ module _ (a b x : ℕ) (st : Step) where
   unfolding reportsOf
   sides = rw (side-before a b x (st .behind) (st .previous), side-after a b x (st .ahead) (st .next))
 
-  pub longs : length (reportsOf a b x st) ≡ length (side (st .behind) (st .previous) a (st .previous) x) + length (side (st .ahead) b (st .next) x (st .next))
-  longs = ap length sides ∙ length-append (side (st .behind) (st .previous) a (st .previous) x) (side (st .ahead) b (st .next) x (st .next))
+  pub length-sides : length (reportsOf a b x st) ≡ length (side (st .behind) (st .previous) a (st .previous) x) + length (side (st .ahead) b (st .next) x (st .next))
+  length-sides = ap length sides ∙ length-append (side (st .behind) (st .previous) a (st .previous) x) (side (st .ahead) b (st .next) x (st .next))
 
   module _ (at : ℕ) (was : List ℕ) (h : at + 16 * length (reportsOf a b x st) ≤ length was) where
     pub room-behind : at + 16 * length (side (st .behind) (st .previous) a (st .previous) x) ≤ length was
-    room-behind = omega (arith, longs)
+    room-behind = omega (arith, length-sides)
 
     module _ (m : ℕ) (mid : List ℕ) (p : Wrote (side (st .behind) (st .previous) a (st .previous) x) at was mid m) where
       pub room-ahead : m + 16 * length (side (st .ahead) b (st .next) x (st .next)) ≤ length mid
-      room-ahead = omega (arith, longs, p .after, p .long)
+      room-ahead = omega (arith, length-sides, p .after, p .long)
 
       pub both-sides : (n : ℕ) (is-now : List ℕ) → Wrote (side (st .ahead) b (st .next) x (st .next)) m mid is-now n → Wrote (reportsOf a b x st) at was is-now n
       both-sides n is-now q = rw sides (wrote-then _ _ was mid is-now at m n (rw (ap length sides) at h) p q)

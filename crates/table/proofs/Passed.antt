@@ -2,11 +2,11 @@
 use mathlib.Core.Path.{_≡_, refl}
 use mathlib.Core.Bool.{Bool, true, false, cond, _&&_}
 use mathlib.Core.List.{List, [], _∷_, map}
-use Prim.Native.Nat.{ℕ, zero, suc, _+_, _-_, _*_, _^_, _≤_, _<_}
+use Prim.Native.Nat.{ℕ, _+_, _-_, _*_, _^_, _≤_, _<_}
 use native.Mathlib.Omega.{arith}
-use lib.Dec.{eqb, leb}
-use lib.ListN.{length, getD}
-use borrow.Author.Tests.{ltb-false, leb-true, leb-false, eqb-true, eqb-false}
+use lib.Dec.{leb}
+use lib.ListN.{length}
+use borrow.Author.Tests.{ltb-false, leb-true, leb-false, eqb-true}
 use Rattle.runs.specs.Parts.{part}
 use Rattle.runs.proofs.Parts.{part-short}
 use Rattle.numbers.specs.Little.{numbers}
@@ -14,8 +14,7 @@ use Rattle.rfc3629.proofs.Texts.{seeded-few}
 use Rattle.rule.specs.Shapes.{riseTo, parts, partsBy, first}
 use Rattle.rule.specs.Table.{Task, Rooms, wordCount, frequencies, A, U, chars, units, unitsOf, wordUnits, total, weighed, roomFor, workNeeded}
 use Rattle.rule.specs.Refusals as row
-use Rattle.rule.specs.Refusals.{noFrequency, zeroFrequency, misplaced, emptyCorpus, tooHeavy, workRoom}
-use Rattle.rule.proofs.Places.{None, none}
+use Rattle.rule.specs.Refusals.{noFrequency, zeroFrequency, misplaced, tooHeavy, workRoom}
 use Rattle.error.specs.declared.TrainError.{TrainError}
 use Rattle.error.specs.declared.TrainError.the-variants.{BadShape, TooMany, EmptyCorpus, ZeroFrequency, OutOfOrder, TooHeavy, WorkRoom}
 use Rattle.vocab.specs.Places.{numbersFrom}
@@ -55,11 +54,6 @@ units-bound seeding ws n from [] h = omega (arith, eqb-true from n h)
 units-bound seeding ws n from (e ∷ es) h =
     let k = risen n from e es h in
     omega (arith, k .0, units-bound seeding ws n e es (k .1), seeded-few (chars seeding) (part from (e - from) ws), part-short from (e - from) ws)
-
-positive : (ns : List ℕ) → None (map (eqb 0) ns) → (i : ℕ) → i < length ns → 1 ≤ getD ns i 0
-positive [] h i l = absurd (omega arith)
-positive (n ∷ ns) h zero l = let k = eqb-false 0 n (h .0) in omega arith
-positive (n ∷ ns) h (suc i) l = positive ns (h .1) i (omega arith)
 
 module _ (t : Task) (r : Rooms) where
   -- a task's answer is that of its runs and settings
@@ -112,16 +106,8 @@ module _ (t : Task) (r : Rooms) where
     pub passed-limits : Limits (wordCount t) (t .vocabSize) (length (t .wordBytes)) (A t) (length (t .alphabetBytes)) (length (t .prefix)) (length (t .suffix))
     passed-limits = limits _ _ _ _ _ _ _ _ refl (p .many)
 
-    pub passed-words : 1 ≤ wordCount t
-    unfolding emptyCorpus
-    passed-words = let k = eqb-false (wordCount t) 0 (p .corpus) in omega arith
-
     pub passed-frequency : zeroFrequency (t .frequencyBytes) ≡ false
     passed-frequency = p .frequency
-
-    pub passed-positive : (i : ℕ) → i < length (frequencies t) → 1 ≤ getD (frequencies t) i 0
-    unfolding zeroFrequency noFrequency frequencies
-    passed-positive = positive (frequencies t) (none _ (p .frequency))
 
     pub passed-light : weighed (frequencies t) (wordUnits t) < 2 ^ 53
     unfolding tooHeavy frequencies wordUnits

@@ -1,11 +1,8 @@
 -- `alphabet::seed_bytes` meets its contract: the byte values from b on are still to come.
 use borrow.Author.Needs.{needs}
-use mathlib.Core.Bool.{true}
 use mathlib.Core.List.{foldl}
-use mathlib.Core.Path.{_≡_}
 use Prim.Native.Nat.{_-_, _≤_}
 use Rattle.rule.specs.Seeding.{intern, byteValues}
-use Rattle.intern.specs.Pieces.{pieces}
 use Rattle.alphabet.specs.Seeds.{Going}
 use Rattle.alphabet.proofs.Going.{going-start, going-can, byte-next, byte-out, byte-end}
 use Rattle.alphabet.proofs.seed_bytes.Statement.{statement}

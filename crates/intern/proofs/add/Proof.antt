@@ -12,7 +12,6 @@ returns : tie.Need-returns
 unfolding Answer Lacks
 returns c =
     let s = c .before .before .before .before .before .before .before in
-    let g = s .args in
     (left _ _ _ _ _ _ _ _ _ (s .pre), inl (omega (arith, c .if1 .taken)))
 
 sub-fits : tie.Need-sub-fits
@@ -78,19 +77,16 @@ add-put-cell-2 c = search needs
 add-put-cell-3 : tie.Need-add-put-cell-3
 add-put-cell-3 c =
     let s = c .before .before .before .before .before .before .before .before .before .before .before .before .before .before .before .before .before .before .before .before .before in
-    let g = s .args in
     omega (arith, s .pre .space, s .pre .slot, s .pre .ok .known .room, s .pre .ok .known .few, s .pre .ok .known .small, c .before .before .before .before .before .before .before .before .before .hash-three .ensures .1)
 
 put-cell-requires : tie.Need-put-cell-requires
 put-cell-requires c κs =
     let s = c .before .before .before .before .before .before .before .before .before .before .before .before .before .before .before .before .before .before .before .before .before in
-    let g = s .args in
     omega (arith, s .pre .space, s .pre .slot, s .pre .ok .known .room, s .pre .ok .known .few, s .pre .ok .known .small)
 
 add-t14 : tie.Need-add-t14
 add-t14 c =
     let s = c .before .before .before .before .before .before .before .before .before .before .before .before .before .before .before .before .before .before .before .before .before .before .before .before in
-    let g = s .args in
     omega (arith, s .pre .space, s .pre .slot, s .pre .ok .known .room, s .pre .ok .known .few, s .pre .ok .known .small)
 
 same-length : tie.Need-same-length

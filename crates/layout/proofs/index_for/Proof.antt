@@ -1,8 +1,7 @@
 -- `layout::index_for` meets its contract: the number of slots is doubled until it is above the records. It is at least 1, so each turn doubles it.
 use borrow.Author.Needs.{needs}
-use native.Mathlib.Omega.{arith}
 use mathlib.Core.Path.{_≡_}
-use Prim.Native.Nat.{_+_, _*_, _-_, _≤_, _<_}
+use Prim.Native.Nat.{_+_, _*_, _-_, _≤_}
 use Rattle.layout.proofs.Fits.{Doubling, doubling-start, doubling-more, doubled}
 use Rattle.layout.proofs.index_for.Statement.{statement}
 use Rattle.layout.proofs.index_for.Tie as tie

@@ -1,4 +1,4 @@
--- `layout::slots_for` meets its contract.
+-- `layout::slots_for` meets its contract: its one test is that of the definition.
 use borrow.Author.Needs.{needs}
 use Rattle.layout.proofs.Fits.{slots-few, slots-many}
 use Rattle.layout.proofs.slots_for.Statement.{statement}

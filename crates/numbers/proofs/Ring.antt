@@ -1,10 +1,57 @@
--- The laws of `blanks`: how many of the first n are 0. Assumes nothing.
+-- The laws of `after` and `blanks`: going round a ring of slots, and how many slots are vacant. Assumes nothing.
 use mathlib.Core.Path.{_≡_, refl, sym, _∙_}
+use mathlib.Core.Logic.{_⊎_, inl, inr}
 use Prim.Native.Nat.{ℕ, zero, suc, _+_, _<_, _≤_}
 use native.Mathlib.Omega.{arith}
 use borrow.Author.Tests.{eq-eqb, ne-eqb}
-use Rattle.runs.proofs.Parts.{same-or-not}
-use Rattle.index.specs.Probe.{blanks}
+use Rattle.runs.proofs.Parts.{same-or-not, below-or-not}
+use Rattle.numbers.specs.Ring.{after, blanks}
+
+-- THE SLOT AFTER ANOTHER
+
+pub after-last : (cap i : ℕ) → i + 1 ≡ cap → 0 ≡ after cap i
+unfolding after
+after-last cap i e = rw (eq-eqb (i + 1) cap e)
+
+pub after-more : (cap i : ℕ) → (i + 1 ≡ cap → ⊥) → i + 1 ≡ after cap i
+unfolding after
+after-more cap i n = rw (ne-eqb (i + 1) cap n)
+
+pub after-lt : (cap i : ℕ) → i < cap → after cap i < cap
+after-lt cap i h =
+    same-or-not (i + 1) cap
+    (λ e. rw (← after-last cap i e) (omega arith))
+    (λ n. rw (← after-more cap i n) (omega arith))
+
+-- the n slots from i on, past the last or not, have the slot e among them
+unfoldable pub Ahead : ℕ → ℕ → ℕ → ℕ → Type 0
+Ahead cap e n i = ((i ≤ e) × (e < i + n)) ⊎ ((e < i) × (e + cap < i + n))
+
+pub ahead-none : (cap e i : ℕ) → i < cap → Ahead cap e 0 i → ⊥
+unfolding Ahead
+ahead-none cap e i h (inl a) = omega arith
+ahead-none cap e i h (inr a) = omega arith
+
+pub ahead-next : (cap e n i : ℕ) → e < cap → i < cap → (i ≡ e → ⊥) → Ahead cap e (suc n) i → Ahead cap e n (after cap i)
+unfolding Ahead
+ahead-next cap e n i h k w a =
+    same-or-not (i + 1) cap
+    (λ q. rw (← after-last cap i q) (last q a))
+    (λ q. rw (← after-more cap i q) (more a))
+  where
+    last : i + 1 ≡ cap → Ahead cap e (suc n) i → Ahead cap e n 0
+    last q (inl p) = absurd (omega arith)
+    last q (inr p) = inl (omega arith, omega arith)
+
+    more : Ahead cap e (suc n) i → Ahead cap e n (i + 1)
+    more (inl p) = inl (omega arith, omega arith)
+    more (inr p) = inr (omega arith, omega arith)
+
+pub ahead-all : (cap e i : ℕ) → e < cap → i < cap → Ahead cap e cap i
+unfolding Ahead
+ahead-all cap e i h k = below-or-not e i (λ p. inr (omega arith, omega arith)) (λ p. inl (omega arith, omega arith))
+
+-- HOW MANY ARE VACANT
 
 blank-yes : (n : ℕ) (f : ℕ → ℕ) → f n ≡ 0 → blanks (suc n) f ≡ 1 + blanks n f
 unfolding blanks
@@ -19,7 +66,7 @@ unfolding blanks
 blanks-none f = refl
 
 -- where each 0 of f is one of g, g has as many
-pub blanks-le : (n : ℕ) (f g : ℕ → ℕ) → ((j : ℕ) → j < n → f j ≡ 0 → g j ≡ 0) → blanks n f ≤ blanks n g
+blanks-le : (n : ℕ) (f g : ℕ → ℕ) → ((j : ℕ) → j < n → f j ≡ 0 → g j ≡ 0) → blanks n f ≤ blanks n g
 blanks-le zero f g h = omega (arith, blanks-none f)
 blanks-le (suc n) f g h =
     let r = blanks-le n f g (λ j k. h j (omega arith)) in
