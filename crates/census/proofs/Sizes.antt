@@ -8,7 +8,7 @@ use native.Mathlib.Numerals.{add-one}
 use lib.ListN.{length}
 use Rattle.runs.specs.Parts.{nth}
 use Rattle.rule.specs.Seeding.{Entry}
-use Rattle.rule.specs.Sums.{Under, AllUnder, symbolsIn}
+use Rattle.rule.specs.Sums.{Under, symbolsIn}
 use Rattle.word.specs.Layout.{entryAt, inUse}
 use Rattle.states.specs.Tracking.{upTo}
 

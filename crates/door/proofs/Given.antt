@@ -1,15 +1,14 @@
 -- The numbers given in an answer run. Assumes nothing.
 use mathlib.Core.Path.{_≡_, sym, ap, _∙_}
 use mathlib.Core.List.{List, [], _∷_, _++_, append-assoc, append-nil, flatMap}
-use Prim.Native.Nat.{ℕ, _+_, _-_, _≤_}
+use Prim.Native.Nat.{ℕ, _≤_}
 use native.Mathlib.Omega.{arith}
-use lib.ListN.{length, drop, length-append, drop-of-length-le}
-use lib.Seq.{drop-at}
+use lib.ListN.{length, length-append}
 use Rattle.runs.specs.Parts.{laid, zeros}
-use Rattle.runs.proofs.Parts.{length-zeros, zeros-append, laid-laid}
+use Rattle.runs.proofs.Parts.{length-zeros, laid-laid}
 use Rattle.numbers.specs.Little.{spell, store}
 use Rattle.numbers.proofs.Little.{length-spell}
-use Rattle.rule.specs.Shapes.{spellAll, filled}
+use Rattle.rule.specs.Shapes.{spellAll}
 use Rattle.rule.specs.Outcome.{told}
 use Rattle.rule.proofs.Lengths.{length-spellAll}
 use Rattle.trainer.proofs.Rooms.{laid-all, laid-filled}

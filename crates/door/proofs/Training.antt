@@ -4,13 +4,13 @@ use mathlib.Core.Bool.{Bool, true, false, cond}
 use mathlib.Core.List.{List, [], _∷_}
 use Prim.Native.Nat.{ℕ, _≤_, _<_}
 use native.Mathlib.Omega.{arith}
-use lib.Dec.{eqb, ltb}
+use lib.Dec.{eqb}
 use lib.ListN.{length}
 use borrow.Author.Tests.{lt-ltb, le-ltb}
 use Rattle.runs.specs.Parts.{nth}
 use Rattle.rule.specs.Table.{Task, Rooms}
-use Rattle.rule.specs.Refusals.{Verdict, says, judge, verdict, seedRoom, outputRoom}
-use Rattle.rule.specs.Outcome.{told, written, cleared, untouched, refusedWith, clears, roomsAfter, Outcome, trainOutcome, lookUp, Read, pieceOutcome}
+use Rattle.rule.specs.Refusals.{Verdict, judge, verdict, seedRoom, outputRoom}
+use Rattle.rule.specs.Outcome.{told, written, cleared, untouched, refusedWith, clears, roomsAfter, Outcome, trainOutcome, Read, pieceOutcome}
 use Rattle.error.specs.Answers.{trainVerdict, pieceVerdict}
 use Rattle.error.specs.declared.TrainError.{TrainError}
 use Rattle.error.specs.declared.TrainError.the-variants as why
@@ -21,7 +21,7 @@ use Rattle.error.proofs.Answers.{train-told}
 use Rattle.vocab.specs.Reading.{lookupVerdict, Looked}
 use Rattle.vocab.specs.declared.Lookup.{Lookup}
 use Rattle.vocab.specs.declared.Lookup.the-variants as look
-use Rattle.trainer.specs.Train.{taskOf, roomsOf, answered, Left, TrainDone}
+use Rattle.trainer.specs.Train.{roomsOf, answered, Left, TrainDone}
 use Rattle.trainer.specs.declared.Answer.{Answer}
 use Rattle.trainer.specs.declared.Answer.the-variants as is
 use Rattle.door.specs.Door.{rooms, trained, read}

@@ -1,7 +1,6 @@
 // The queue engine between two merges: the words, what is known of each pair, and the queue of the pairs that may be merged next.
 // So a merge goes to the words that hold its pair and to no others, and leaves the queue's entries alone.
 ghost use mathlib.Core.Bool.{true};
-ghost use Prim.Native.Nat.{_<_};
 ghost use Rattle.numbers.specs.Cells.{cells};
 ghost use Rattle.marks.specs.Marks.{touched, marking};
 ghost use Rattle.word.specs.Layout.{Words};

@@ -4,7 +4,6 @@ use mathlib.Core.List.{List, [], _∷_}
 use Prim.Native.Nat.{ℕ, zero, suc, _+_, _*_, _<_, _≤_}
 use native.Mathlib.Omega.{arith}
 use lib.ListN.{length}
-use Rattle.runs.proofs.Parts.{same-or-not}
 use Rattle.rule.specs.Rewriting.{rewrite, countIn}
 use Rattle.rule.specs.Seeding.{Entry}
 use Rattle.rule.specs.Sums.{Under, AllUnder, symbolsIn}
@@ -12,7 +11,6 @@ use Rattle.rule.specs.Training.{rewriteAll}
 use Rattle.rule.proofs.Rewriting.{rewrite-none, gone}
 use Rattle.word.specs.Layout.{entryAt, inUse}
 use Rattle.merge.specs.Merging.{changeAt}
-use Rattle.merge.proofs.Changes.{change-this, change-other}
 use Rattle.states.specs.Tracking.{withWord, Weighed}
 
 -- a word with its own symbols, and with those that a change makes of them

@@ -1,10 +1,10 @@
 -- The invariant of the pair states, and what each function does to the view.
 use mathlib.Core.Path.{_≡_}
-use mathlib.Core.List.{List, []}
+use mathlib.Core.List.{List}
 use mathlib.Core.Logic.{_⊎_}
 use Prim.Native.Nat.{ℕ, _+_, _*_, _<_, _≤_}
 use lib.ListN.{length}
-use Rattle.runs.specs.Parts.{nth, Kept}
+use Rattle.runs.specs.Parts.{Kept}
 use Rattle.index.specs.Index.{Index, vacant, idle}
 use Rattle.arena.specs.Arena.{Arena, taken, free}
 use Rattle.states.specs.State.{State, blank, Change}

@@ -3,7 +3,6 @@
 ghost use mathlib.Core.Path.{_≡_};
 ghost use Prim.Native.Nat.{_<_};
 ghost use Rattle.numbers.specs.Cells.{cells};
-ghost use Rattle.states.specs.State.{State};
 ghost use Rattle.pairs.specs.View.{recordOf, keyIn, state, made};
 ghost use Rattle.pairs.specs.Pairs.{Pairing, Has, CanEnter, Entered, Asked, CanMake, Made, Removed, Updated};
 

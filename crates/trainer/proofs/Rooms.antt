@@ -1,7 +1,7 @@
 -- What is in the rooms after an answer: front and zeros, or zeros. Assumes nothing.
 use mathlib.Core.Path.{_≡_, refl, sym, ap, _∙_}
-use mathlib.Core.Bool.{Bool, true, false, cond}
-use mathlib.Core.List.{List, [], _∷_, _++_, append-nil}
+use mathlib.Core.Bool.{true, false}
+use mathlib.Core.List.{List, [], _∷_, append-nil}
 use Prim.Native.Nat.{ℕ, _+_, _-_, _≤_}
 use native.Mathlib.Omega.{arith}
 use lib.Dec.{eqb}
@@ -9,7 +9,7 @@ use lib.ListN.{length, drop, drop-of-length-le}
 use lib.Seq.{drop-at}
 use Rattle.runs.specs.Parts.{laid, zeros}
 use Rattle.runs.proofs.Parts.{length-zeros, zeros-append}
-use Rattle.rule.specs.Shapes.{filled, some?}
+use Rattle.rule.specs.Shapes.{filled}
 use Rattle.rule.specs.Table.{Task, Rooms}
 use Rattle.rule.specs.Training.{trained, allPieces}
 use Rattle.rule.specs.Layout.{pieceBytes, pieceRecords, mergeBytes, savingBytes}
@@ -20,7 +20,7 @@ use Rattle.error.specs.Answers.{trainVerdict}
 use Rattle.error.specs.declared.TrainError.{TrainError}
 use Rattle.error.specs.declared.TrainError.the-variants as why
 use Rattle.table.specs.Answers.{laterRows}
-use Rattle.trainer.specs.Train.{answered, Front, TableDone, Left, RoomsDone}
+use Rattle.trainer.specs.Train.{answered, TableDone, Left, RoomsDone}
 use Rattle.trainer.specs.declared.Answer.{Answer}
 use Rattle.trainer.specs.declared.Answer.the-variants as is
 

@@ -1,19 +1,19 @@
 -- Rows 8 to 10 as conditions on numbers, and what each answer says. Assumes nothing.
-use mathlib.Core.Path.{_≡_, refl, sym, ap, _∙_}
+use mathlib.Core.Path.{_≡_, refl, sym, _∙_}
 use mathlib.Core.Bool.{Bool, true, false, cond, _||_}
-use mathlib.Core.List.{List, [], _∷_, _++_, map}
+use mathlib.Core.List.{[], _∷_}
 use mathlib.Core.Logic.{_⊎_, inl, inr}
-use Prim.Native.Nat.{ℕ, _+_, _*_, _-_, _^_, _<_, _≤_}
+use Prim.Native.Nat.{ℕ, _*_, _<_, _≤_}
 use native.Mathlib.Omega.{arith}
 use lib.Dec.{ltb}
 use lib.ListN.{length}
 use borrow.Author.Tests.{lt-ltb, le-ltb}
 use Rattle.rule.specs.Shapes.{some?}
 use Rattle.rule.specs.Table.{Task, Rooms}
-use Rattle.rule.specs.Seeding.{seeds, kept}
-use Rattle.rule.specs.Training.{trainFrom, trained, allPieces}
+use Rattle.rule.specs.Seeding.{seeds}
+use Rattle.rule.specs.Training.{trained, allPieces}
 use Rattle.rule.specs.Layout.{pieceBytes, pieceRecords, mergeBytes, savingBytes}
-use Rattle.rule.specs.Refusals.{Verdict, says, judge, success, seedRoom, vocabTooSmall, outputRoom}
+use Rattle.rule.specs.Refusals.{says, judge, success, seedRoom, vocabTooSmall, outputRoom}
 use Rattle.rule.proofs.Lengths.{length-pieceRecords}
 use Rattle.intern.specs.Many.{Exceed}
 use Rattle.table.specs.Answers.{laterRows}

@@ -1,32 +1,26 @@
 -- Rows 9 and 10, and rows 8 to 10, of the code's answers: each is the rule's. Assumes nothing.
 use mathlib.Core.Path.{_≡_, refl, sym, ap, _∙_}
-use mathlib.Core.Bool.{true}
-use mathlib.Core.List.{List, [], _∷_, _++_, map}
+use mathlib.Core.List.{List}
 use mathlib.Core.Logic.{_⊎_, inl, inr}
-use Prim.Native.Nat.{ℕ, _+_, _*_, _-_, _/_, _^_, _<_, _≤_}
+use Prim.Native.Nat.{ℕ, _*_, _-_, _/_, _<_, _≤_}
 use native.Mathlib.Omega.{arith}
-use lib.ListN.{length, length-append}
-use Rattle.runs.specs.Parts.{part, laid, Bytes, Kept}
-use Rattle.runs.proofs.Parts.{length-part, length-laid}
+use lib.ListN.{length}
+use Rattle.runs.specs.Parts.{part, Bytes, Kept}
+use Rattle.runs.proofs.Parts.{length-part}
 use Rattle.runs.proofs.Frames.{kept-then, kept-wide}
 use Rattle.training.proofs.Turning.{laid-front}
 use Rattle.numbers.specs.Cells.{cells}
 use Rattle.numbers.proofs.Cells.{length-cells}
 use Rattle.rule.specs.Table.{Task, Rooms, A, U, roomFor, alphabet, frequencies, wordUnits, weighed}
-use Rattle.rule.specs.Sums.{AllUnder, symbolsIn}
 use Rattle.rule.specs.Seeding.{decorated, seeds, kept}
-use Rattle.rule.specs.Training.{Merge, trainFrom, trained, allPieces}
+use Rattle.rule.specs.Training.{trainFrom, trained, allPieces}
 use Rattle.rule.specs.Layout.{pieceBytes, pieceRecords, mergeBytes, savingBytes}
-use Rattle.rule.specs.Refusals.{says, judge}
-use Rattle.rule.specs.Outcome.{clears}
-use Rattle.rule.proofs.Lengths.{length-mergeBytes, length-savingBytes}
 use Rattle.rule.proofs.Seeding.{kept-below}
 use Rattle.rule.proofs.Bounds.{kept-light}
 use Rattle.error.specs.Answers.{trainVerdict}
 use Rattle.error.specs.declared.TrainError.{TrainError}
 use Rattle.error.specs.declared.TrainError.the-variants as why
-use Rattle.table.specs.Answers.{laterRows}
-use Rattle.intern.specs.Pieces.{pieces, Held}
+use Rattle.intern.specs.Pieces.{pieces}
 use Rattle.intern.specs.Many.{Exceed}
 use Rattle.intern.proofs.Rooms.{length-pieces}
 use Rattle.intern.proofs.Many.{bytes-are, length-bytes, exceed-lengths}
@@ -42,7 +36,7 @@ use Rattle.engine.specs.Engine.{CanStart}
 use Rattle.training.specs.Training.{Settings, withMerges, Written, TooMuch, TrainedDone}
 use Rattle.training.specs.declared.Trained.{Trained}
 use Rattle.training.specs.declared.Trained.the-variants as grown
-use Rattle.trainer.specs.Train.{taskOf, roomsOf, CanGrow, GrownOut, GrownDone, CanTrain, Front, TableDone}
+use Rattle.trainer.specs.Train.{taskOf, roomsOf, CanGrow, GrownOut, GrownDone, CanTrain, TableDone}
 use Rattle.trainer.specs.declared.Answer.{Answer}
 use Rattle.trainer.specs.declared.Answer.the-variants as is
 use Rattle.trainer.proofs.Weights.{sown-live, kept-weighed}

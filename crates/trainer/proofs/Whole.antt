@@ -1,20 +1,19 @@
 -- All rows: what the table's judgement leaves to training, and the contract of training. Assumes nothing.
-use mathlib.Core.Path.{_≡_, refl, sym, ap, _∙_}
+use mathlib.Core.Path.{_≡_, refl, sym, _∙_}
 use mathlib.Core.Bool.{Bool, true, false, cond}
 use mathlib.Core.List.{List}
-use Prim.Native.Nat.{ℕ, _+_, _*_, _/_, _≤_}
+use Prim.Native.Nat.{ℕ, _/_}
 use native.Mathlib.Omega.{arith}
-use lib.Dec.{eqb}
 use lib.ListN.{length}
 use Rattle.rule.specs.Shapes.{first}
-use Rattle.rule.specs.Table.{Task, Rooms, roomFor}
-use Rattle.rule.specs.Refusals.{badShape, tooMany, emptyCorpus, noFrequency, zeroFrequency, misplaced, outOfOrder, tooHeavy, workRoom, verdict, judge}
+use Rattle.rule.specs.Table.{Rooms, roomFor}
+use Rattle.rule.specs.Refusals.{badShape, tooMany, emptyCorpus, noFrequency, zeroFrequency, misplaced, outOfOrder, tooHeavy, workRoom}
 use Rattle.rule.specs.Outcome.{clears}
 use Rattle.error.specs.Answers.{trainVerdict}
 use Rattle.error.specs.declared.TrainError.{TrainError}
 use Rattle.error.specs.declared.TrainError.the-variants as why
 use Rattle.table.specs.Weighing.{unitCount}
-use Rattle.table.specs.Answers.{wordsAnswer, tableAnswer, taskAnswer, laterRows}
+use Rattle.table.specs.Answers.{wordsAnswer, tableAnswer, taskAnswer}
 use Rattle.table.specs.declared.Judged.{Judged}
 use Rattle.table.specs.declared.Judged.the-variants as judged
 use Rattle.table.proofs.Answers.{refused-verdict, fine-verdict}

@@ -5,7 +5,6 @@
 // what lies beyond the answer is 0, and a refusal sets all of them and the work room to 0 again.
 ghost use mathlib.Core.Path.{_≡_};
 ghost use Prim.Native.Nat.{_≤_};
-ghost use lib.ListN.{length};
 ghost use Rattle.numbers.specs.Cells.{cells};
 ghost use Rattle.rule.specs.Outcome.{wiped};
 ghost use Rattle.trainer.specs.Train.{taskOf, roomsOf, CanGrow, GrownDone, CanTrain, TableDone, RoomsDone, TrainDone};

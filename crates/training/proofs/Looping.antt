@@ -1,8 +1,8 @@
 -- The training loop: start, turn, ways out. Assumes nothing.
-use mathlib.Core.Path.{_≡_, refl, sym, ap, _∙_}
+use mathlib.Core.Path.{_≡_, ap, _∙_}
 use mathlib.Core.List.{List, [], _∷_, _++_}
 use mathlib.Core.Logic.{_⊎_, inl, inr}
-use Prim.Native.Nat.{ℕ, zero, suc, _+_, _*_, _-_, _<_, _≤_, max}
+use Prim.Native.Nat.{ℕ, suc, _+_, _*_, _-_, _<_, _≤_, max}
 use native.Mathlib.Omega.{arith}
 use lib.ListN.{length}
 use Rattle.rule.specs.Table.{Task}
@@ -17,12 +17,11 @@ use Rattle.intern.proofs.Rooms.{length-pieces, pieces-at}
 use Rattle.word.specs.Layout.{corpus}
 use Rattle.word.specs.declared.WordSet.{WordSet}
 use Rattle.pairs.specs.declared.Pairs.{Pairs}
-use Rattle.engine.specs.Engine.{wordsIn, Engaged, Limits, Waiting, CanStart, Started, CanJoin, JoinDone}
+use Rattle.engine.specs.Engine.{wordsIn, Engaged, Limits, Waiting, Started, CanJoin}
 use Rattle.engine.specs.declared.Engine.{Engine}
 use Rattle.choosing.specs.Choosing.{CanChoose, Picked, NextDone}
 use Rattle.choosing.specs.declared.Next.{Next}
 use Rattle.choosing.specs.declared.Next.the-variants as next
-use Rattle.output.specs.Output.{More, MergeDone}
 use Rattle.training.specs.Training.{ApplyDone, Settings, Written, TooMuch, TrainedDone}
 use Rattle.training.specs.declared.Applied.{Applied}
 use Rattle.training.specs.declared.Applied.the-variants as applied

@@ -1,40 +1,33 @@
 -- The merges from some pieces and words on, turn by turn. Assumes nothing.
 use mathlib.Core.Path.{_≡_, refl, sym, ap, _∙_}
-use mathlib.Core.Bool.{Bool, true, false, cond, not}
+use mathlib.Core.Bool.{Bool, true, false, not}
 use mathlib.Core.List.{List, [], _∷_, _++_, append-nil, append-assoc, map, flatMap}
 use mathlib.Core.Logic.{_⊎_, inl, inr}
-use Prim.Native.Nat.{ℕ, zero, suc, _+_, _*_, _-_, _^_, _<_, _≤_, max}
+use Prim.Native.Nat.{ℕ, suc, _+_, _*_, _<_, _≤_}
 use native.Mathlib.Omega.{arith}
-use lib.Dec.{ltb}
-use lib.ListN.{length, getD, length-append}
+use lib.ListN.{length, length-append}
 use lib.Seq.{append-snoc}
-use borrow.Author.Tests.{lt-ltb, le-ltb, not-true, not-false}
+use borrow.Author.Tests.{not-true, not-false}
 use Rattle.runs.specs.Parts.{nth, part, laid, Kept}
 use Rattle.runs.proofs.Parts.{nth-ext, below-or-not, nth-part, part-none, part-split, part-laid, length-part, length-laid, nth-laid, nth-laid-after}
 use Rattle.runs.proofs.Frames.{kept-none, kept-then, kept-wide, kept-laid, kept-part}
 use Rattle.numbers.specs.Little.{spell}
 use Rattle.numbers.proofs.Little.{length-spell}
 use Rattle.rule.specs.Shapes.{spellAll}
-use Rattle.rule.specs.Table.{Task}
-use Rattle.rule.specs.Spelling.{joined}
-use Rattle.rule.specs.Seeding.{Entry}
-use Rattle.rule.specs.Sums.{AllUnder, symbolsIn}
-use Rattle.rule.specs.Training.{Merge, mergeOf, choose, count, saving, joinedOf, rewriteAll, trainFrom}
-use Rattle.rule.specs.Layout.{pieceBytes, pieceAt, mergeBytes, savingBytes}
-use Rattle.rule.proofs.Lengths.{length-pieceBytes, length-mergeBytes, length-savingBytes}
-use Rattle.rule.proofs.Counts.{symbols-rewrite, below-all}
+use Rattle.rule.specs.Training.{Merge, count}
+use Rattle.rule.specs.Layout.{pieceBytes, mergeBytes, savingBytes}
+use Rattle.rule.proofs.Lengths.{length-mergeBytes, length-savingBytes}
 use Rattle.intern.specs.Pieces.{pieces, Held}
 use Rattle.intern.specs.Intern.{Lacks}
 use Rattle.intern.specs.Many.{Exceed}
-use Rattle.intern.proofs.Rooms.{length-pieces, pieces-at}
+use Rattle.intern.proofs.Rooms.{length-pieces}
 use Rattle.intern.proofs.Many.{length-bytes}
 use Rattle.engine.specs.Engine.{JoinDone}
 use Rattle.engine.specs.declared.Engine.{Engine}
 use Rattle.output.specs.Output.{More, PieceDone, MergeDone}
 use Rattle.output.specs.declared.Appended.{Appended}
 use Rattle.output.specs.declared.Appended.the-variants as appended
-use Rattle.training.specs.Training.{ApplyDone, Settings, withMerges, Written, TooMuch, TrainedDone}
-use Rattle.training.specs.declared.Applied.{Applied}
+use Rattle.training.specs.Training.{ApplyDone, withMerges, Written, TooMuch}
 use Rattle.training.specs.declared.Applied.the-variants as applied
 use Rattle.training.specs.declared.Trained.the-variants as trained
 

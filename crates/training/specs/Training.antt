@@ -7,7 +7,6 @@ use Prim.Native.Nat.{ℕ, _+_, _-_, _*_, _<_, _≤_}
 use lib.ListN.{length}
 use Rattle.runs.specs.Parts.{laid, Kept}
 use Rattle.rule.specs.Table.{Task}
-use Rattle.rule.specs.Seeding.{Entry}
 use Rattle.rule.specs.Training.{Merge, trainFrom}
 use Rattle.rule.specs.Layout.{mergeBytes, savingBytes}
 use Rattle.intern.specs.Pieces.{pieces, Held}

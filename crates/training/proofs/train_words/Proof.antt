@@ -2,7 +2,7 @@
 use borrow.Author.Needs.{needs}
 use native.Mathlib.Omega.{arith}
 use mathlib.Core.Path.{_≡_}
-use Prim.Native.Nat.{_+_, _-_, _≤_, _<_, max}
+use Prim.Native.Nat.{_-_, _≤_, max}
 use lib.ListN.{length}
 use Rattle.numbers.specs.Cells.{cells}
 use Rattle.engine.specs.Engine.{wordsIn}
