@@ -1,6 +1,6 @@
 -- The pair that `choose` finds is the one that demand 3 names, and there is no other.
-use mathlib.Core.Path.{_≡_, refl, sym, ap}
-use mathlib.Core.Bool.{Bool, true, false, cond, _&&_, _||_}
+use mathlib.Core.Path.{_≡_, refl, sym, ap, _∙_}
+use mathlib.Core.Bool.{Bool, true, false, cond, _&&_, _||_, false≢true}
 use mathlib.Core.List.{List, [], _∷_, _++_}
 use mathlib.Core.Logic.{_⊎_, inl, inr, ⊎-elim}
 use Prim.Native.Nat.{ℕ, _*_, _≤_, _<_, max}
@@ -13,6 +13,7 @@ use Rattle.rule.specs.Seeding.{Entry}
 use Rattle.rule.specs.Rewriting.{bit, isPair, link, countIn}
 use Rattle.rule.specs.Training.{count, within, Choice, nothing, better, best, candidatesIn, candidates, choose}
 use Rattle.rule.specs.Demand.{Lower, Open, Chosen}
+use Rattle.runs.proofs.Parts.{below-or-not}
 use Rattle.rule.proofs.Rewriting.{pair-true}
 
 -- c is at least as good as d
@@ -115,13 +116,6 @@ best-in c (d ∷ ds) = go (better d c) (best-in (cond (better d c) d c) ds)
     go false (inl e) = inl e
     go false (inr i) = inr (there i)
 
-side : (a b : ℕ) → (a < b) ⊎ (b ≤ a)
-side a b = go (ltb a b) refl
-  where
-    go : (c : Bool) → ltb a b ≡ c → (a < b) ⊎ (b ≤ a)
-    go true e = inl (ltb-true a b e)
-    go false e = inr (ltb-false a b e)
-
 module _ (t : Task) (ps : List (List ℕ)) (all : List Entry) where
   abbrev at : ℕ → ℕ → Choice
   at p q = record { left = p; right = q; times = count p q all }
@@ -139,18 +133,17 @@ module _ (t : Task) (ps : List (List ℕ)) (all : List Entry) where
       go true e false f m =
           let z = pair-true p q s u e in
           let g : within t ps p q ≡ false = rw (z .0, z .1) at f in
-          let y : _≡_ {A = ℕ} 0 1 = cc in
-          absurd (omega arith)
+          absurd (false≢true (sym g ∙ k))
       go false e true f m = there (m (omega (arith, ap bit e)))
       go false e false f m = m (omega (arith, ap bit e))
 
   words-in : (p q : ℕ) → within t ps p q ≡ true → (es : List Entry) → 0 < count p q es → In (at p q) (candidates t ps all es)
   unfolding candidates count
   words-in p q k [] h = absurd (omega arith)
-  words-in p q k (e ∷ es) h = ⊎-elim
+  words-in p q k (e ∷ es) h =
+      below-or-not 0 (countIn p q (e .symbols))
       (λ m. in-left (candidates t ps all es) (word-in p q k (e .symbols) m))
       (λ m. in-right (candidatesIn t ps all (e .symbols)) (words-in p q k es (omega (arith, none (countIn p q (e .symbols)) m))))
-      (side 0 (countIn p q (e .symbols)))
     where
       none : (n : ℕ) → n ≤ 0 → e .frequency * n ≡ 0
       none n m = let z : n ≡ 0 = omega arith in rw (z, mul-zero)
@@ -207,7 +200,7 @@ module _ (t : Task) (ps : List (List ℕ)) (es : List Entry) where
       let e = s .counted in
       record {
         isOpen = record { inLimit = s .inside; occurs = omega arith; frequent = omega arith };
-        ahead = λ p q k n. rw (← e) (⊎-elim (λ o. ahead-of (choose-all p q k o) n) (λ z. inl (omega arith)) (side 0 (count p q es)));
+        ahead = λ p q k n. rw (← e) (below-or-not 0 (count p q es) (λ o. ahead-of (choose-all p q k o) n) (λ z. inl (omega arith)));
       }
 
   -- there is one such pair at most

@@ -17,7 +17,7 @@ use Rattle.rule.specs.Layout.{pieceBytes, pieceRecords, mergeBytes, savi
 use Rattle.rule.specs.Refusals.{verdict, outputRoom, OutputRoom}
 use Rattle.rule.specs.Outcome.{clears, told, wiped, Outcome, trainOutcome, roomsAfter, written, refusedWith, cleared, untouched}
 use Rattle.rule.proofs.Places.{none}
-use Rattle.rule.proofs.Lengths.{length-spellAll, length-wiped, length-filled, filled-rest}
+use Rattle.rule.proofs.Lengths.{length-wiped, length-filled, filled-rest, length-told}
 use Rattle.rule.proofs.Judged.{few, accepts}
 
 -- every run but the answer is as it was
@@ -115,10 +115,6 @@ module _ (t : Task) (r : Rooms) where
       savings = filled-holds _ _;
     })
 
-    told-length : (ns : List ℕ) → length ns ≤ 3 → length (told (r .answer) ns) ≡ length (r .answer)
-    unfolding told
-    told-length ns h = length-filled (r .answer) (spellAll 8 ns) (omega (arith, length-spellAll 8 ns))
-
   -- the answer fits where 10 does not hold
   pub record Fits : Type 0 where
     pub ends : length (pieceRecords (allPieces t)) ≤ length (r .pieceEnds)
@@ -142,7 +138,7 @@ module _ (t : Task) (r : Rooms) where
   module _ (long : 64 ≤ length (r .answer)) (ns : List ℕ) (h : length ns ≤ 3) where
     untouched-lengths : SameLengths r (untouched r ns)
     unfolding untouched refusedWith
-    untouched-lengths = record { work = refl; pieces = refl; pieceEnds = refl; merges = refl; savings = refl; answer = told-length long ns h }
+    untouched-lengths = record { work = refl; pieces = refl; pieceEnds = refl; merges = refl; savings = refl; answer = length-told (r .answer) ns long h }
 
     cleared-lengths : SameLengths r (cleared r ns)
     unfolding cleared refusedWith
@@ -152,7 +148,7 @@ module _ (t : Task) (r : Rooms) where
       pieceEnds = length-wiped _;
       merges = length-wiped _;
       savings = length-wiped _;
-      answer = told-length long ns h;
+      answer = length-told (r .answer) ns long h;
     }
 
     written-lengths : Fits → SameLengths r (written t r ns)
@@ -163,7 +159,7 @@ module _ (t : Task) (r : Rooms) where
       pieceEnds = length-filled _ _ (f .ends);
       merges = length-filled _ _ (f .merges);
       savings = length-filled _ _ (f .savings);
-      answer = told-length long ns h;
+      answer = length-told (r .answer) ns long h;
     }
 
   -- which case it is: a short answer run, success, 8 to 10, or another refusal
