@@ -15,7 +15,7 @@ use Rattle.rule.specs.Rewriting.{rewrite, rewrites, reports}
 use Rattle.rule.specs.Layout.{pieceShape, pieceCount, pieceStart, pieceLength}
 use Rattle.rule.specs.Refusals.{Verdict, says}
 use Rattle.rule.specs.Outcome.{short, told, reportBytes, lookUp, pieceOutcome, mergeVerdict, Merged, mergeOutcome}
-use Rattle.runs.proofs.Parts.{length-laid}
+use Rattle.runs.proofs.Parts.{below-or-not, length-laid}
 use Rattle.numbers.proofs.Cells.{length-numbers}
 use Rattle.rule.proofs.Lengths.{length-spellAll, length-told, length-reports}
 use Rattle.rule.proofs.Rewriting.{length-rewrite}
@@ -54,11 +54,8 @@ module _ (pieces ends : List ℕ) (n : ℕ) (answer : List ℕ) where
   look-few v (done h k l) = omega arith
 
   pub read-length : length (pieceOutcome pieces ends n answer .answer) ≡ length answer
-  read-length = go (ltb (length answer) 64) refl
-    where
-      go : (c : Bool) → ltb (length answer) 64 ≡ c → length (pieceOutcome pieces ends n answer .answer) ≡ length answer
-      go true e = rw (read-short (ltb-true _ _ e))
-      go false e = rw (read-long (ltb-false _ _ e)) (length-told answer _ (ltb-false _ _ e) (look-few _ look-says))
+  read-length =
+      below-or-not (length answer) 64 (λ h. rw (read-short h)) (λ h. rw (read-long h) (length-told answer _ h (look-few _ look-says)))
 
 -- MERGING SYMBOLS
 module _ (s : List ℕ) (a b x : ℕ) (c into : List ℕ) where

@@ -1,6 +1,6 @@
 -- Interning: a number, once given, stays, is the lowest with its spelling, and spells it. Every symbol of a kept word is a seed's number.
 use mathlib.Core.Path.{_≡_, refl, sym, ap, _∙_}
-use mathlib.Core.Bool.{Bool, true, false, cond, _||_, false≢true}
+use mathlib.Core.Bool.{Bool, true, false, _||_, false≢true}
 use mathlib.Core.List.{List, [], _∷_, _++_, map, flatMap, foldl}
 use mathlib.Core.Logic.{_≢_}
 use Prim.Native.Nat.{ℕ, zero, suc, _<_}
@@ -12,6 +12,7 @@ use Rattle.rule.specs.Table.{Task, frequencies, alphabet, wordUnits}
 use Rattle.rule.specs.Seeding.{decorated, numberOf, intern, firstSeeds, seeds, Entry, keep, keptWith, kept}
 use Rattle.rule.specs.Sums.{Under, AllUnder}
 use Rattle.runs.proofs.Ordered.{same-true, same-refl}
+use Rattle.rfc3629.proofs.Rows.{cond-elim}
 
 -- a spelling is among the pieces
 unfoldable pub Has : List (List ℕ) → List ℕ → Type 0
@@ -84,20 +85,14 @@ module _ (s : List ℕ) where
   -- an interned spelling is there
   pub has-intern : (ps : List (List ℕ)) → Has (intern ps s) s
   unfolding intern Has
-  has-intern ps = go (some? (map (same s) ps)) refl
-    where
-      go : (c : Bool) → some? (map (same s) ps) ≡ c → Has (cond c ps (ps ++ (s ∷ []))) s
-      go true e = e
-      go false e = has-last ps
+  has-intern ps = cond-elim (λ qs. Has qs s) (some? (map (same s) ps)) (λ e. e) (λ e. has-last ps)
 
   -- and interning others leaves it its number
   pub intern-stays : (ps : List (List ℕ)) (u : List ℕ) → Has ps s → Has (intern ps u) s × (numberOf (intern ps u) s ≡ numberOf ps s)
   unfolding intern
-  intern-stays ps u h = go (some? (map (same u) ps))
-    where
-      go : (c : Bool) → Has (cond c ps (ps ++ (u ∷ []))) s × (numberOf (cond c ps (ps ++ (u ∷ []))) s ≡ numberOf ps s)
-      go true = (h, refl)
-      go false = (has-append ps (u ∷ []) h, number-append ps (u ∷ []) h)
+  intern-stays ps u h =
+      cond-elim (λ qs. Has qs s × (numberOf qs s ≡ numberOf ps s)) (some? (map (same u) ps))
+      (λ e. (h, refl)) (λ e. (has-append ps (u ∷ []) h, number-append ps (u ∷ []) h))
 
   pub interns-stay : (us ps : List (List ℕ)) → Has ps s → Has (foldl intern ps us) s × (numberOf (foldl intern ps us) s ≡ numberOf ps s)
   interns-stay [] ps h = (h, refl)
