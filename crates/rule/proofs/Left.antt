@@ -5,10 +5,10 @@ use mathlib.Core.List.{List}
 use mathlib.Core.Logic.{_≢_}
 use Prim.Native.Nat.{ℕ, _-_, _≤_, _<_}
 use native.Mathlib.Omega.{arith}
-use lib.Dec.{eqb, ltb, leb}
+use lib.Dec.{eqb, leb}
 use lib.ListN.{length, take, drop}
 use lib.Seq.{take-append-seam}
-use borrow.Author.Tests.{ltb-true, ltb-false, leb-true, eq-eqb, le-leb, lt-leb, lt-ltb, le-ltb, ne-eqb, eqb-true, eqb-false}
+use borrow.Author.Tests.{ltb-false, leb-true, eq-eqb, le-leb, lt-leb, lt-ltb, le-ltb, ne-eqb, eqb-true, eqb-false}
 use Rattle.runs.specs.Parts.{zeros}
 use Rattle.rule.specs.Shapes.{spellAll, filled}
 use Rattle.rule.specs.Table.{Task, Rooms}
@@ -16,6 +16,7 @@ use Rattle.rule.specs.Training.{trained, allPieces}
 use Rattle.rule.specs.Layout.{pieceBytes, pieceRecords, mergeBytes, savingBytes}
 use Rattle.rule.specs.Refusals.{verdict, outputRoom, OutputRoom}
 use Rattle.rule.specs.Outcome.{clears, told, wiped, Outcome, trainOutcome, roomsAfter, written, refusedWith, cleared, untouched}
+use Rattle.runs.proofs.Parts.{below-or-not}
 use Rattle.rule.proofs.Places.{none}
 use Rattle.rule.proofs.Lengths.{length-wiped, length-filled, filled-rest, length-told}
 use Rattle.rule.proofs.Judged.{few, accepts}
@@ -170,17 +171,15 @@ module _ (t : Task) (r : Rooms) where
     keeping : 64 ≤ length (r .answer) → trainOutcome t r .rooms ≡ untouched r (verdict t r .gives) → Case
 
   pub case : Case
-  case = go (ltb (length (r .answer)) 64) refl
+  case =
+      below-or-not (length (r .answer)) 64 isShort
+      (λ long. by long (eqb (verdict t r .number) 0) (leb 8 (verdict t r .number)) (leb (verdict t r .number) 10) refl refl refl)
     where
       by : (long : 64 ≤ length (r .answer)) (a b c : Bool) → eqb (verdict t r .number) 0 ≡ a → leb 8 (verdict t r .number) ≡ b → leb (verdict t r .number) 10 ≡ c → Case
       by long true b c p q s = succeeds long (eqb-true _ _ p)
       by long false true true p q s = clearing long (rooms-cleared long (leb-true _ _ q) (leb-true _ _ s))
       by long false true false p q s = keeping long (rooms-untouched long (eqb-false _ _ p) (rw (q, s)))
       by long false false c p q s = keeping long (rooms-untouched long (eqb-false _ _ p) (rw q))
-
-      go : (c : Bool) → ltb (length (r .answer)) 64 ≡ c → Case
-      go true e = isShort (ltb-true _ _ e)
-      go false e = by (ltb-false _ _ e) (eqb (verdict t r .number) 0) (leb 8 (verdict t r .number)) (leb (verdict t r .number) 10) refl refl refl
 
   -- EVERY RUN KEEPS ITS LENGTH, whatever came in
   pub lengths-stay : SameLengths r (trainOutcome t r .rooms)
