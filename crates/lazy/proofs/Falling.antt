@@ -1,20 +1,19 @@
 -- Savings never rise from a merge to the next, and there are no more merges than symbols.
 use mathlib.Core.Path.{_≡_, refl, sym, _∙_}
-use mathlib.Core.Bool.{Bool, true, false}
+use mathlib.Core.Bool.{true}
 use mathlib.Core.List.{List, [], _∷_}
 use mathlib.Core.Logic.{_≢_, ⊎-elim}
 use Prim.Native.Nat.{ℕ, zero, suc, _+_, _*_, _≤_, _<_, max}
 use native.Mathlib.Nat.{mul-zero}
 use native.Mathlib.Omega.{arith}
-use lib.Dec.{eqb, ltb}
 use lib.ListN.{length}
-use borrow.Author.Tests.{eqb-true, eqb-false, ltb-true, ltb-false}
 use Rattle.rule.specs.Table.{Task}
 use Rattle.rule.specs.Seeding.{Entry}
 use Rattle.rule.specs.Rewriting.{rewrites, countIn}
 use Rattle.rule.specs.Training.{count, rewriteAll, saving, within, Choice, choose, Merge, trainFrom}
 use Rattle.rule.specs.Demand.{Chosen}
 use Rattle.rule.specs.Sums.{AllUnder}
+use Rattle.runs.proofs.Parts.{same-or-not, below-or-not}
 use Rattle.rule.proofs.Rewriting.{rewrites-some}
 use Rattle.rule.proofs.Counts.{rewrites-count, counts-fall, counted-below, counts-new-left, counts-new-right}
 use Rattle.rule.proofs.Choosing.{choose-spent, choose-chosen}
@@ -26,18 +25,11 @@ use Rattle.lazy.proofs.Bound.{units-rewrite}
 
 -- the chosen pair has the greatest count
 pub chosen-most : (t : Task) (ps : List (List ℕ)) (es : List Entry) (a b : ℕ) → Chosen t ps es a b → (p q : ℕ) → within t ps p q ≡ true → count p q es ≤ count a b es
-chosen-most t ps es a b c p q w = go (eqb p a) (eqb q b) refl refl
+chosen-most t ps es a b c p q w =
+    same-or-not p a (λ y. same-or-not q b (λ z. rw (y, z) (omega arith)) (λ n. other (λ k. n (k .1)))) (λ n. other (λ k. n (k .0)))
   where
     other : ((p ≡ a) × (q ≡ b) → ⊥) → count p q es ≤ count a b es
     other n = ⊎-elim (λ h. omega arith) (λ h. let z = h .0 in omega arith) (c .ahead p q w n)
-
-    go : (u v : Bool) → eqb p a ≡ u → eqb q b ≡ v → count p q es ≤ count a b es
-    go true true h k =
-        let y : p ≡ a = eqb-true p a h in
-        let z : q ≡ b = eqb-true q b k in
-        rw (y, z) (omega arith)
-    go true false h k = other (λ z. eqb-false q b k (z .1))
-    go false v h k = other (λ z. eqb-false p a h (z .0))
 
 -- AFTER A MERGE no pair within the limit counts more than the merged one did: an old pair never rises, a new one is at most as often as the rewrites
 module _ (t : Task) (ps : List (List ℕ)) (es : List Entry) (a b : ℕ) (sound : AllUnder (length ps) es) (c : Chosen t ps es a b) where
@@ -56,25 +48,21 @@ module _ (t : Task) (ps : List (List ℕ)) (es : List Entry) (a b : ℕ) (sound 
       omega (arith, chosen-most t ps es a b c p q g)
 
   pub next-most : (p q : ℕ) → within t (piecesWith t ps e) p q ≡ true → count p q es′ ≤ count a b es
-  next-most p q f = go (eqb p (length ps)) (eqb q (length ps)) refl refl
-    where
-      go : (u v : Bool) → eqb p (length ps) ≡ u → eqb q (length ps) ≡ v → count p q es′ ≤ count a b es
-      go true v h k =
-          let y : p ≡ length ps = eqb-true p (length ps) h in
-          rw y (omega (arith, counts-new-left a b (length ps) q es sound, rewrites-count a b es))
-      go false true h k =
-          let y : q ≡ length ps = eqb-true q (length ps) k in
-          rw y (omega (arith, counts-new-right a b (length ps) p es sound, rewrites-count a b es))
-      go false false h k = old-most p q f (λ z. eqb-false p (length ps) h (sym z)) (λ z. eqb-false q (length ps) k (sym z)) (count p q es′) refl
+  next-most p q f =
+      same-or-not p (length ps)
+      (λ y. rw y (omega (arith, counts-new-left a b (length ps) q es sound, rewrites-count a b es)))
+      (λ m.
+      same-or-not q (length ps)
+      (λ y. rw y (omega (arith, counts-new-right a b (length ps) p es sound, rewrites-count a b es)))
+      (λ n. old-most p q f (λ z. m (sym z)) (λ z. n (sym z)) (count p q es′) refl))
 
 -- by cases: training has ended, or a pair is chosen
 train-case : (t : Task) (n : ℕ) (ps : List (List ℕ)) (es : List Entry) (P : List Merge → Type 0) → P []
     → ((a b : ℕ) → Chosen t ps es a b → P (trainFrom t (suc n) ps es)) → P (trainFrom t (suc n) ps es)
-train-case t n ps es P none some = go (ltb (choose t ps es .times) (max 1 (t .minFrequency))) refl
-  where
-    go : (x : Bool) → ltb (choose t ps es .times) (max 1 (t .minFrequency)) ≡ x → P (trainFrom t (suc n) ps es)
-    go true h = rw (train-spent t (suc n) ps es (choose-spent t ps es (ltb-true _ _ h))) none
-    go false h = some (choose t ps es .left) (choose t ps es .right) (choose-chosen t ps es (ltb-false _ _ h))
+train-case t n ps es P none some =
+    below-or-not (choose t ps es .times) (max 1 (t .minFrequency))
+    (λ h. rw (train-spent t (suc n) ps es (choose-spent t ps es h)) none)
+    (λ h. some (choose t ps es .left) (choose t ps es .right) (choose-chosen t ps es h))
 
 -- SAVINGS NEVER RISE
 pub train-falls : (t : Task) (n : ℕ) (ps : List (List ℕ)) (es : List Entry) (c : ℕ) → AllUnder (length ps) es

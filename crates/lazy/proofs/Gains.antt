@@ -1,6 +1,6 @@
 -- Which pairs a merge enters: those that a report raises and that occur after it. And a pair dropped for good gets no entry again.
 use mathlib.Core.Path.{_≡_, refl, sym, ap, _∙_}
-use mathlib.Core.Bool.{Bool, true, false, cond, _||_}
+use mathlib.Core.Bool.{Bool, true, false, cond, _||_, false≢true}
 use mathlib.Core.List.{List, [], _∷_, _++_}
 use mathlib.Core.Logic.{_≢_}
 use Prim.Native.Nat.{ℕ, zero, suc, _+_, _*_, _≤_, _<_}
@@ -40,9 +40,7 @@ either-not : (x p q : ℕ) → (eqb p x || eqb q x) ≡ true → p < x → q < x
 either-not x p q e h k =
     let a = ne-eqb p x (λ z. omega arith) in
     let b = ne-eqb q x (λ z. omega arith) in
-    let f : (eqb p x || eqb q x) ≡ false = rw (a, b) in
-    let z : _≡_ {A = ℕ} 0 1 = cc in
-    omega arith
+    false≢true (rw (a, b) at e)
 
 -- A PAIR THAT A REPORT RAISED, and that occurs after the merge, is entered
 pub raised-entered : (a b x : ℕ) (es : List Entry) (p q : ℕ) → 1 ≤ raised p q (allReports a b x es) → 1 ≤ count p q (rewriteAll a b x es)

@@ -1,5 +1,4 @@
--- The invariant of a loop that runs the lazy rule, and its turns. k counts down from five times the symbols; n counts the merges that there is still
--- room for; ms and c are the merges made and the entries taken; u is the symbols at the start.
+-- A loop that runs the lazy rule: `Loop` holds at its start, each turn keeps it, and at each way out the whole is made.
 use mathlib.Core.Path.{_≡_, refl}
 use mathlib.Core.Bool.{true, false}
 use mathlib.Core.List.{List, [], _∷_, _++_}

@@ -1,6 +1,6 @@
--- The order of choice is total; tests as facts.
-use mathlib.Core.Path.{_≡_, refl, sym}
-use mathlib.Core.Bool.{Bool, true, false, _&&_, _||_}
+-- The order of choice as the test `better` has it: of two entries one stands before the other, and both do only where they are one.
+use mathlib.Core.Path.{_≡_, refl, sym, _∙_}
+use mathlib.Core.Bool.{Bool, true, false, _&&_, _||_, true≢false}
 use mathlib.Core.Logic.{_⊎_, inl, inr}
 use Prim.Native.Nat.{ℕ, _≤_, _<_}
 use native.Mathlib.Omega.{arith}
@@ -8,6 +8,7 @@ use lib.Dec.{eqb, ltb}
 use borrow.Author.Tests.{ltb-true, ltb-false, eqb-true, eqb-false}
 use Rattle.rule.specs.Training.{Choice, better}
 use Rattle.rule.specs.Demand.{Lower}
+use Rattle.runs.proofs.Parts.{same-or-not, below-or-not}
 use Rattle.lazy.specs.Invariant.{First}
 
 -- what the test says
@@ -79,27 +80,18 @@ first-lower {e} {f} x d h = record {
 -- of another pair it is ahead, as demand 3 says it
 pub first-ahead : (e f : Choice) → First e f → ((f .left ≡ e .left) × (f .right ≡ e .right) → ⊥)
     → (f .times < e .times) ⊎ ((f .times ≡ e .times) × Lower (e .left) (e .right) (f .left) (f .right))
-first-ahead e f x n = go (ltb (f .times) (e .times)) (ltb (e .left) (f .left)) (eqb (f .right) (e .right)) refl refl refl
-  where
-    go : (a b c : Bool) → ltb (f .times) (e .times) ≡ a → ltb (e .left) (f .left) ≡ b → eqb (f .right) (e .right) ≡ c
-        → (f .times < e .times) ⊎ ((f .times ≡ e .times) × Lower (e .left) (e .right) (f .left) (f .right))
-    go true b c ea eb ec = inl (ltb-true _ _ ea)
-    go false true c ea eb ec = let h = ltb-false (f .times) (e .times) ea in inr (omega arith, inl (ltb-true _ _ eb))
-    go false false true ea eb ec =
-        let h = ltb-false (f .times) (e .times) ea in
-        let l = ltb-false (e .left) (f .left) eb in
-        let m = x .lefts (omega arith) in
-        absurd (n (omega arith, eqb-true _ _ ec))
-    go false false false ea eb ec =
-        let h = ltb-false (f .times) (e .times) ea in
-        let l = ltb-false (e .left) (f .left) eb in
-        let k = eqb-false (f .right) (e .right) ec in
-        let same : f .times ≡ e .times = omega arith in
-        let m = x .lefts same in
-        let left : e .left ≡ f .left = omega arith in
-        let r = x .rights same left in
-        inr (same, inr (left, omega arith))
+first-ahead e f x n =
+    below-or-not (f .times) (e .times) inl
+    (λ h.
+    let same : f .times ≡ e .times = omega (arith, x .counts) in
+    below-or-not (e .left) (f .left)
+    (λ l. inr (same, inl l))
+    (λ l.
+    let left : e .left ≡ f .left = omega (arith, x .lefts same) in
+    same-or-not (f .right) (e .right)
+    (λ r. absurd (n (sym left, r)))
+    (λ k. inr (same, inr (left, omega (arith, x .rights same left))))))
 
 -- a test cannot have both answers
 pub differ : {A : Type 0} → (b : Bool) → b ≡ true → b ≡ false → A
-differ b e f = let z : _≡_ {A = ℕ} 0 1 = cc in absurd (omega arith)
+differ b e f = absurd (true≢false (sym e ∙ f))

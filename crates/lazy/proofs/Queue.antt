@@ -2,7 +2,7 @@
 use mathlib.Core.Path.{_≡_, refl, ap}
 use mathlib.Core.Bool.{Bool, true, false, cond, _&&_}
 use mathlib.Core.List.{List, [], _∷_}
-use Prim.Native.Nat.{ℕ, zero, suc, _+_, _≤_}
+use Prim.Native.Nat.{ℕ, suc, _+_, _≤_}
 use native.Mathlib.Omega.{arith}
 use lib.Dec.{eqb, leb}
 use lib.ListN.{length}
@@ -10,6 +10,7 @@ use borrow.Author.Tests.{eqb-true, eqb-false, leb-false}
 use Rattle.rule.specs.Seeding.{Entry}
 use Rattle.rule.specs.Rewriting.{bit, isPair}
 use Rattle.rule.specs.Training.{count, Choice, better}
+use Rattle.rfc3629.proofs.Rows.{cond-elim}
 use Rattle.rule.proofs.Rewriting.{pair-true, pair-hit}
 use Rattle.lazy.specs.Lazy.{insert, total, isOf, entries, Pair, live, enter, enterAll}
 use Rattle.lazy.specs.Invariant.{First, Every, Sorted}
@@ -20,20 +21,12 @@ use Rattle.lazy.proofs.Spots.{In, here, there}
 pub total-insert : (g : Choice → ℕ) (e : Choice) (qu : List Choice) → total g (insert e qu) ≡ g e + total g qu
 unfolding total insert
 total-insert g e [] = refl
-total-insert g e (f ∷ qu) = go (better e f) (total-insert g e qu)
-  where
-    go : (b : Bool) → total g (insert e qu) ≡ g e + total g qu → total g (cond b (e ∷ f ∷ qu) (f ∷ insert e qu)) ≡ g e + total g (f ∷ qu)
-    go true h = refl
-    go false h = omega arith
+total-insert g e (f ∷ qu) = cond-elim (λ l. total g l ≡ g e + total g (f ∷ qu)) (better e f) (λ b. refl) (λ b. omega (arith, total-insert g e qu))
 
 pub length-insert : (e : Choice) (qu : List Choice) → length (insert e qu) ≡ suc (length qu)
 unfolding insert
 length-insert e [] = refl
-length-insert e (f ∷ qu) = go (better e f) (length-insert e qu)
-  where
-    go : (b : Bool) → length (insert e qu) ≡ suc (length qu) → length (cond b (e ∷ f ∷ qu) (f ∷ insert e qu)) ≡ suc (suc (length qu))
-    go true h = refl
-    go false h = ap suc h
+length-insert e (f ∷ qu) = cond-elim (λ (l : List Choice). length l ≡ suc (suc (length qu))) (better e f) (λ b. refl) (λ b. ap suc (length-insert e qu))
 
 -- WHAT HOLDS OF EVERY ENTRY
 pub every-map : {P Q : Choice → Type 0} → ((e : Choice) → P e → Q e) → (qu : List Choice) → Every P qu → Every Q qu
@@ -47,11 +40,7 @@ every-two f (e ∷ qu) h k = (f e (h .0) (k .0), every-two f qu (h .1) (k .1))
 pub every-insert : (P : Choice → Type 0) (e : Choice) (qu : List Choice) → P e → Every P qu → Every P (insert e qu)
 unfolding insert
 every-insert P e [] h k = (h, tt)
-every-insert P e (f ∷ qu) h k = go (better e f) (every-insert P e qu h (k .1))
-  where
-    go : (b : Bool) → Every P (insert e qu) → Every P (cond b (e ∷ f ∷ qu) (f ∷ insert e qu))
-    go true m = (h, k)
-    go false m = (k .0, m)
+every-insert P e (f ∷ qu) h k = cond-elim (Every P) (better e f) (λ b. (h, k)) (λ b. (k .0, every-insert P e qu h (k .1)))
 
 -- IN THE ORDER OF CHOICE
 pub sorted-insert : (e : Choice) (qu : List Choice) → Sorted qu → Sorted (insert e qu)
@@ -110,14 +99,10 @@ module _ (es : List Entry) where
   unfolding enter
   enter-case P c qu f g = go (leb 1 (count (c .left) (c .right) es)) (eqb (entries (c .left) (c .right) qu) 0) refl refl
     where
-      pos : (n : ℕ) → (n ≡ 0 → ⊥) → 1 ≤ n
-      pos zero k = absurd (k refl)
-      pos (suc n) k = omega arith
-
       go : (a b : Bool) → leb 1 (count (c .left) (c .right) es) ≡ a → eqb (entries (c .left) (c .right) qu) 0 ≡ b
           → P (cond (a && b) (insert (live es (c .left) (c .right)) qu) qu)
       go true true h k = g (eqb-true _ _ k)
-      go true false h k = f (λ _. pos _ (eqb-false _ _ k))
+      go true false h k = let z = eqb-false (entries (c .left) (c .right) qu) 0 k in f (λ _. omega arith)
       go false b h k = let z = leb-false 1 (count (c .left) (c .right) es) h in f (λ m. absurd (omega arith))
 
   -- what each new entry keeps, all keep

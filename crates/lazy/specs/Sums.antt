@@ -33,12 +33,7 @@ stale es f = cond (eqb (count (f .left) (f .right) es) (f .times)) 0 1
 unfoldable pub potential : List Entry → List Choice → ℕ
 potential es qu = length qu + total (stale es) qu + 4 * units es
 
--- the pieces after some merges, one after the other
-unfoldable pub piecesUpon : Task → List (List ℕ) → List Choice → List (List ℕ)
-piecesUpon t ps [] = ps
-piecesUpon t ps (e ∷ cs) = piecesUpon t (piecesWith t ps e) cs
-
--- the words
+-- the words after some merges, one after the other
 unfoldable pub wordsUpon : Task → List (List ℕ) → List Entry → List Choice → List Entry
 wordsUpon t ps es [] = es
 wordsUpon t ps es (e ∷ cs) = wordsUpon t (piecesWith t ps e) (wordsWith ps es e) cs

@@ -2,8 +2,7 @@
 -- That two places differ is a test, which two numerals pass by `refl`.
 use mathlib.Core.Path.{_≡_, refl, sym, _∙_}
 use mathlib.Core.Bool.{Bool, true, false, cond}
-use Prim.Native.Nat.{ℕ, zero, suc, _+_, _*_, _/_, _%_, _^_, _<_}
-use native.Mathlib.Nat.{pow-suc}
+use Prim.Native.Nat.{ℕ, zero, suc, _+_, _*_, _/_, _%_, _<_}
 use native.Mathlib.Omega.{arith}
 use lib.Dec.{eqb, eqb·suc-suc}
 use Rattle.marks.specs.Marks.{marked, marking}
@@ -68,13 +67,3 @@ marking-as-is zero m = go (m % 2) refl (omega arith)
     go (suc zero) e h = omega arith
     go (suc (suc d)) e h = absurd (omega arith)
 marking-as-is (suc k) m = let e = marking-as-is k (m / 2) in omega arith
-
--- a number below 2 ^ n stays there under a change below the place n
-pub marking-below : (n k : ℕ) (b : Bool) (m : ℕ) → k < n → m < 2 ^ n → marking k b m < 2 ^ n
-unfolding marking
-marking-below zero k b m l h = absurd (omega arith)
-marking-below (suc n) zero b m l h = let p = rw pow-suc at h in rw pow-suc (omega (arith, half-mark (m / 2) b))
-marking-below (suc n) (suc k) b m l h =
-    let p = rw pow-suc at h in
-    let q = marking-below n k b (m / 2) (omega arith) (omega arith) in
-    rw pow-suc (omega arith)

@@ -1,12 +1,12 @@
 -- The laws of `cells`. Assumes nothing.
 use mathlib.Core.Path.{_≡_, refl, sym, ap, _∙_}
-use mathlib.Core.List.{List, [], _∷_}
+use mathlib.Core.List.{List}
 use mathlib.Core.Logic.{_⊎_, inl, inr}
 use Prim.Native.Nat.{ℕ, zero, suc, _+_, _-_, _*_, _/_, _^_, _≤_, _<_}
 use native.Mathlib.Omega.{arith}
 use native.Mathlib.Nat.{le-trans, not-suc-le-zero, le-of-suc-le-suc, suc-mul, zero-mul}
 use lib.ListN.{length}
-use Rattle.runs.specs.Parts.{nth, put, part, laid, zeros, Bytes, Kept}
+use Rattle.runs.specs.Parts.{nth, put, part, laid, zeros}
 use Rattle.runs.proofs.Parts.{same-or-not, below-or-not, length-put, nth-put, nth-put-other, nth-past, nth-ext, length-part, part-short, nth-part, part-part, part-laid-in, length-laid, nth-laid-before, nth-laid, nth-laid-after, length-zeros, nth-zeros}
 use Rattle.runs.proofs.Frames.{kept-laid, kept-part}
 use Rattle.numbers.specs.Little.{little, load, store, loads, numbers}

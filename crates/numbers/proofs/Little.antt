@@ -5,18 +5,14 @@ use mathlib.Core.Logic.{_⊎_}
 use Prim.Native.Nat.{ℕ, zero, suc, _+_, _*_, _/_, _%_, _^_, _≤_, _<_}
 use native.Mathlib.Omega.{arith}
 use native.Mathlib.Numerals.{add-one}
-use native.Mathlib.Nat.{zero-add, suc-add, mul-assoc, mul-comm, add-zero, mul-zero, one-mul, div-one, pow-zero, pow-suc, div-div-eq-div-mul}
+use native.Mathlib.Nat.{zero-add, suc-add, mul-assoc, mul-comm, add-zero, mul-zero, one-mul, div-one, pow-zero, pow-suc, one-le-pow, div-div-eq-div-mul}
 use lib.Arith.{mod-mul}
 use lib.ListN.{length, getD, set, take, drop}
 use lib.Seq.{getD-drop, sets-eq}
 use Rattle.runs.specs.Parts.{nth, part, laid, zeros, Bytes}
-use Rattle.runs.proofs.Parts.{below-or-not, length-part, part-past, part-short, part-bytes, part-split, part-laid, length-laid, laid-laid, laid-bytes}
+use Rattle.runs.proofs.Parts.{below-or-not, length-part, part-past, part-split, part-laid, length-laid, laid-laid}
 use Rattle.runs.proofs.Frames.{kept-laid, kept-part}
 use Rattle.numbers.specs.Little.{little, spell, load, store}
-
-pub pos : (w : ℕ) → 0 < 256 ^ w
-pos zero = omega (arith, pow-zero 256)
-pos (suc w) = omega (arith, pow-suc 256 w, pos w)
 
 -- BYTES AND THE NUMBER THAT THEY ARE
 
@@ -24,12 +20,6 @@ pub length-spell : (w v : ℕ) → length (spell w v) ≡ w
 unfolding spell
 length-spell zero v = refl
 length-spell (suc w) v = ap suc (length-spell w (v / 256))
-
-pub spell-bytes : (w v : ℕ) → Bytes (spell w v)
-unfolding spell nth
-spell-bytes zero v j = omega arith
-spell-bytes (suc w) v zero = omega arith
-spell-bytes (suc w) v (suc j) = spell-bytes w (v / 256) j
 
 pub spell-zero : (w : ℕ) → spell w 0 ≡ zeros w
 unfolding spell zeros
@@ -54,7 +44,7 @@ pub spell-mod : (w v : ℕ) → spell w (v % 256 ^ w) ≡ spell w v
 unfolding spell
 spell-mod zero v = refl
 spell-mod (suc w) v =
-    let e : v % (256 ^ w * 256) ≡ (v / 256 % 256 ^ w) * 256 + v % 256 = mod-mul v (pos w) (omega arith) in
+    let e : v % (256 ^ w * 256) ≡ (v / 256 % 256 ^ w) * 256 + v % 256 = mod-mul v (one-le-pow w 256 (omega arith)) (omega arith) in
     let a : v % (256 ^ w * 256) % 256 ≡ v % 256 = omega arith in
     let d : v % (256 ^ w * 256) / 256 ≡ v / 256 % 256 ^ w = omega arith in
     rw (pow-suc 256 w, a, d) (ap (λ (l : List ℕ). v % 256 ∷ l) (spell-mod w (v / 256)))
@@ -74,23 +64,12 @@ spell-little (x ∷ xs) b =
     let d : (x + 256 * little xs) / 256 ≡ little xs = omega arith in
     rw (m, d) (ap (λ (l : List ℕ). x ∷ l) (spell-little xs (λ j. b (suc j))))
 
--- some bytes are less than 256 to their number
-pub little-lt : (w : ℕ) (xs : List ℕ) → Bytes xs → length xs ≤ w → little xs < 256 ^ w
-unfolding little nth
-little-lt w [] b h = pos w
-little-lt zero (x ∷ xs) b h = absurd (omega arith)
-little-lt (suc w) (x ∷ xs) b h = omega (arith, pow-suc 256 w, b 0, little-lt w xs (λ j. b (suc j)) (omega arith))
-
 pub little-zero : (xs : List ℕ) → ((j : ℕ) → nth xs j ≡ 0) → little xs ≡ 0
 unfolding little nth
 little-zero [] z = refl
 little-zero (x ∷ xs) z = omega (arith, z 0, little-zero xs (λ j. z (suc j)))
 
 -- LOADS AND STORES
-
-pub load-lt : (w : ℕ) (xs : List ℕ) (at : ℕ) → Bytes xs → load w xs at < 256 ^ w
-unfolding load
-load-lt w xs at b = little-lt w (part at w xs) (part-bytes at w xs b) (part-short at w xs)
 
 -- a wide load is two narrow ones
 pub load-split : (m n : ℕ) (xs : List ℕ) (at : ℕ) → load (m + n) xs at ≡ load m xs at + 256 ^ m * load n xs (at + m)
@@ -119,10 +98,6 @@ module _ (w : ℕ) (xs : List ℕ) (at v : ℕ) (fits : at + w ≤ length xs) wh
   pub length-store : length (store w xs at v) ≡ length xs
   unfolding store
   length-store = length-laid xs at (spell w v) fits-spelled
-
-  pub store-bytes : Bytes xs → Bytes (store w xs at v)
-  unfolding store
-  store-bytes b = laid-bytes xs at (spell w v) fits-spelled b (spell-bytes w v)
 
   -- a load at the place of the store finds what was stored
   pub load-store : v < 256 ^ w → load w (store w xs at v) at ≡ v

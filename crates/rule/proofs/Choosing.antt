@@ -1,6 +1,6 @@
 -- The pair that `choose` finds is the one that demand 3 names, and there is no other.
-use mathlib.Core.Path.{_≡_, refl, sym, ap}
-use mathlib.Core.Bool.{Bool, true, false, cond, _&&_, _||_}
+use mathlib.Core.Path.{_≡_, refl, sym, ap, _∙_}
+use mathlib.Core.Bool.{Bool, true, false, cond, _&&_, _||_, false≢true}
 use mathlib.Core.List.{List, [], _∷_, _++_}
 use mathlib.Core.Logic.{_⊎_, inl, inr, ⊎-elim}
 use Prim.Native.Nat.{ℕ, _*_, _≤_, _<_, max}
@@ -13,6 +13,7 @@ use Rattle.rule.specs.Seeding.{Entry}
 use Rattle.rule.specs.Rewriting.{bit, isPair, link, countIn}
 use Rattle.rule.specs.Training.{count, within, Choice, nothing, better, best, candidatesIn, candidates, choose}
 use Rattle.rule.specs.Demand.{Lower, Open, Chosen}
+use Rattle.runs.proofs.Parts.{same-or-not, below-or-not}
 use Rattle.rule.proofs.Rewriting.{pair-true}
 
 -- c is at least as good as d
@@ -45,11 +46,7 @@ ahead-of : {c d : Choice} → AtLeast c d → ((d .left ≡ c .left) × (d .righ
     → (d .times < c .times) ⊎ ((d .times ≡ c .times) × Lower (c .left) (c .right) (d .left) (d .right))
 ahead-of (more p) n = inl p
 ahead-of (lower p x) n = inr (p, inl x)
-ahead-of {c} {d} (level p x y) n = inr (p, inr (x, go (eqb (d .right) (c .right)) refl))
-  where
-    go : (e : Bool) → eqb (d .right) (c .right) ≡ e → c .right < d .right
-    go true e = absurd (n (sym x, eqb-true _ _ e))
-    go false e = let k = eqb-false (d .right) (c .right) e in omega arith
+ahead-of {c} {d} (level p x y) n = inr (p, inr (x, same-or-not (d .right) (c .right) (λ e. absurd (n (sym x, e))) (λ k. omega arith)))
 
 -- what a test leaves is at least as good as both
 tested : (d c : Choice) → AtLeast (cond (better d c) d c) d × AtLeast (cond (better d c) d c) c
@@ -115,13 +112,6 @@ best-in c (d ∷ ds) = go (better d c) (best-in (cond (better d c) d c) ds)
     go false (inl e) = inl e
     go false (inr i) = inr (there i)
 
-side : (a b : ℕ) → (a < b) ⊎ (b ≤ a)
-side a b = go (ltb a b) refl
-  where
-    go : (c : Bool) → ltb a b ≡ c → (a < b) ⊎ (b ≤ a)
-    go true e = inl (ltb-true a b e)
-    go false e = inr (ltb-false a b e)
-
 module _ (t : Task) (ps : List (List ℕ)) (all : List Entry) where
   abbrev at : ℕ → ℕ → Choice
   at p q = record { left = p; right = q; times = count p q all }
@@ -139,18 +129,17 @@ module _ (t : Task) (ps : List (List ℕ)) (all : List Entry) where
       go true e false f m =
           let z = pair-true p q s u e in
           let g : within t ps p q ≡ false = rw (z .0, z .1) at f in
-          let y : _≡_ {A = ℕ} 0 1 = cc in
-          absurd (omega arith)
+          absurd (false≢true (sym g ∙ k))
       go false e true f m = there (m (omega (arith, ap bit e)))
       go false e false f m = m (omega (arith, ap bit e))
 
   words-in : (p q : ℕ) → within t ps p q ≡ true → (es : List Entry) → 0 < count p q es → In (at p q) (candidates t ps all es)
   unfolding candidates count
   words-in p q k [] h = absurd (omega arith)
-  words-in p q k (e ∷ es) h = ⊎-elim
+  words-in p q k (e ∷ es) h =
+      below-or-not 0 (countIn p q (e .symbols))
       (λ m. in-left (candidates t ps all es) (word-in p q k (e .symbols) m))
       (λ m. in-right (candidatesIn t ps all (e .symbols)) (words-in p q k es (omega (arith, none (countIn p q (e .symbols)) m))))
-      (side 0 (countIn p q (e .symbols)))
     where
       none : (n : ℕ) → n ≤ 0 → e .frequency * n ≡ 0
       none n m = let z : n ≡ 0 = omega arith in rw (z, mul-zero)
@@ -207,12 +196,13 @@ module _ (t : Task) (ps : List (List ℕ)) (es : List Entry) where
       let e = s .counted in
       record {
         isOpen = record { inLimit = s .inside; occurs = omega arith; frequent = omega arith };
-        ahead = λ p q k n. rw (← e) (⊎-elim (λ o. ahead-of (choose-all p q k o) n) (λ z. inl (omega arith)) (side 0 (count p q es)));
+        ahead = λ p q k n. rw (← e) (below-or-not 0 (count p q es) (λ o. ahead-of (choose-all p q k o) n) (λ z. inl (omega arith)));
       }
 
   -- there is one such pair at most
   pub chosen-one : (a b c d : ℕ) → Chosen t ps es a b → Chosen t ps es c d → (a ≡ c) × (b ≡ d)
-  chosen-one a b c d x y = go (eqb c a) (eqb d b) refl refl
+  chosen-one a b c d x y =
+      same-or-not c a (λ e. same-or-not d b (λ f. (sym e, sym f)) (λ n. clash (λ k. n (k .1)))) (λ n. clash (λ k. n (k .0)))
     where
       clash : ((c ≡ a) × (d ≡ b) → ⊥) → (a ≡ c) × (b ≡ d)
       clash n = cases (x .ahead c d (y .isOpen .inLimit) n) (y .ahead a b (x .isOpen .inLimit) (λ e. n (sym (e .0), sym (e .1))))
@@ -227,18 +217,9 @@ module _ (t : Task) (ps : List (List ℕ)) (es : List Entry) where
           cases (inr (h, inr l)) (inr (k, inl m)) = absurd (omega arith)
           cases (inr (h, inr l)) (inr (k, inr m)) = absurd (omega arith)
 
-      go : (u v : Bool) → eqb c a ≡ u → eqb d b ≡ v → (a ≡ c) × (b ≡ d)
-      go true true e f = (sym (eqb-true c a e), sym (eqb-true d b f))
-      go true false e f = clash (λ k. eqb-false d b f (k .1))
-      go false v e f = clash (λ k. eqb-false c a e (k .0))
-
   -- so any pair that demand 3 names is the choice
   open-enough : (a b : ℕ) → Open t ps es a b → max 1 (t .minFrequency) ≤ choose t ps es .times
-  open-enough a b o = go (ltb (choose t ps es .times) (max 1 (t .minFrequency))) refl
-    where
-      go : (x : Bool) → ltb (choose t ps es .times) (max 1 (t .minFrequency)) ≡ x → max 1 (t .minFrequency) ≤ choose t ps es .times
-      go true e = absurd (choose-spent (ltb-true _ _ e) a b o)
-      go false e = ltb-false _ _ e
+  open-enough a b o = below-or-not (choose t ps es .times) (max 1 (t .minFrequency)) (λ h. absurd (choose-spent h a b o)) (λ h. h)
 
   pub record IsChoice (a b : ℕ) : Type 0 where
     pub left : choose t ps es .left ≡ a

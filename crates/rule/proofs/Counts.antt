@@ -1,5 +1,5 @@
 -- Rewriting all kept words: the laws of one word, each word times its frequency.
-use mathlib.Core.Path.{_≡_, refl, ap}
+use mathlib.Core.Path.{_≡_, refl, sym, ap}
 use mathlib.Core.Bool.{Bool, true, false, cond}
 use mathlib.Core.List.{List, [], _∷_}
 use mathlib.Core.Logic.{_≢_}
@@ -13,8 +13,8 @@ use Rattle.rule.specs.Rewriting.{bit, isPair, Span, one, hit, cut, src, 
 use Rattle.rule.specs.Seeding.{Entry}
 use Rattle.rule.specs.Training.{count, rewriteAll}
 use Rattle.rule.specs.Sums.{raised, lowered, occurs, Under, AllUnder, symbolsIn, rewritesIn, gains, losses}
-use Rattle.rule.proofs.Rewriting.{pair-true, src-cut, length-rewrite, link-bound, never-rises, new-left, new-right, rewrites-le, gone}
-use Rattle.rule.proofs.Reports.{balance-any, balance, never-raised}
+use Rattle.rule.proofs.Rewriting.{pair-true, pair-miss, src-cut, length-rewrite, link-bound, never-rises, new-left, new-right, rewrites-le, gone}
+use Rattle.rule.proofs.Reports.{balance-any, never-raised}
 
 -- EACH REWRITE COSTS THE CORPUS A SYMBOL, weighted
 pub symbols-rewrite : (a b x : ℕ) (es : List Entry) → symbolsIn (rewriteAll a b x es) + rewritesIn a b es ≡ symbolsIn es
@@ -69,11 +69,7 @@ module _ (p q a b x : ℕ) where
 
   pub counts-balance : (p ≡ a → q ≡ b → ⊥) → (es : List Entry)
       → count p q es + gains p q a b x es ≡ count p q (rewriteAll a b x es) + losses p q a b x es
-  unfolding count gains losses rewriteAll
-  counts-balance n [] = refl
-  counts-balance n (e ∷ es) =
-      let h = counts-balance n es in
-      omega (arith, ap (λ (m : ℕ). e .frequency * m) (balance p q a b x n (e .symbols)))
+  counts-balance n es = let k = rw (pair-miss p q a b (λ e k. n (sym e) (sym k))) at (counts-balance-any es) in omega arith
 
   -- A PAIR WITHOUT THE NEW SYMBOL NEVER GAINS, weighted
   pub counts-fall : x ≢ p → x ≢ q → (es : List Entry) → count p q (rewriteAll a b x es) ≤ count p q es

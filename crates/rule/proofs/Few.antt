@@ -300,9 +300,6 @@ module _ (t : Task) where
         let fs = forms (t .prefix) (t .suffix) (firsts t) in
         omega (arith, apart-within (seeds t) (fs ++ alphabet t) seeds-apart seeds-in, length-append fs (alphabet t), length-forms (t .prefix) (t .suffix) (firsts t))
 
-    pub seeds-few : length (seeds t) ≤ 5 * length (firstSeeds (t .seeding) (wordUnits t)) + length (alphabet t)
-    seeds-few = omega (arith, seeds-forms)
-
     pub seeds-small : length (t .prefix) ≤ 255 → length (t .suffix) ≤ 255 → length (t .alphabetBytes) ≤ 1048576 → shaped (t .alphabetBytes) (t .alphabetEnds) ≡ true
         → length (pieceBytes (seeds t)) ≤ 4294967295
     seeds-small m n l h =

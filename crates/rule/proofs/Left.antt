@@ -5,10 +5,10 @@ use mathlib.Core.List.{List}
 use mathlib.Core.Logic.{_≢_}
 use Prim.Native.Nat.{ℕ, _-_, _≤_, _<_}
 use native.Mathlib.Omega.{arith}
-use lib.Dec.{eqb, ltb, leb}
+use lib.Dec.{eqb, leb}
 use lib.ListN.{length, take, drop}
 use lib.Seq.{take-append-seam}
-use borrow.Author.Tests.{ltb-true, ltb-false, leb-true, eq-eqb, le-leb, lt-leb, lt-ltb, le-ltb, ne-eqb, eqb-true, eqb-false}
+use borrow.Author.Tests.{ltb-false, leb-true, eq-eqb, le-leb, lt-leb, lt-ltb, le-ltb, ne-eqb, eqb-true, eqb-false}
 use Rattle.runs.specs.Parts.{zeros}
 use Rattle.rule.specs.Shapes.{spellAll, filled}
 use Rattle.rule.specs.Table.{Task, Rooms}
@@ -16,8 +16,9 @@ use Rattle.rule.specs.Training.{trained, allPieces}
 use Rattle.rule.specs.Layout.{pieceBytes, pieceRecords, mergeBytes, savingBytes}
 use Rattle.rule.specs.Refusals.{verdict, outputRoom, OutputRoom}
 use Rattle.rule.specs.Outcome.{clears, told, wiped, Outcome, trainOutcome, roomsAfter, written, refusedWith, cleared, untouched}
+use Rattle.runs.proofs.Parts.{below-or-not}
 use Rattle.rule.proofs.Places.{none}
-use Rattle.rule.proofs.Lengths.{length-spellAll, length-wiped, length-filled, filled-rest}
+use Rattle.rule.proofs.Lengths.{length-wiped, length-filled, filled-rest, length-told}
 use Rattle.rule.proofs.Judged.{few, accepts}
 
 -- every run but the answer is as it was
@@ -115,10 +116,6 @@ module _ (t : Task) (r : Rooms) where
       savings = filled-holds _ _;
     })
 
-    told-length : (ns : List ℕ) → length ns ≤ 3 → length (told (r .answer) ns) ≡ length (r .answer)
-    unfolding told
-    told-length ns h = length-filled (r .answer) (spellAll 8 ns) (omega (arith, length-spellAll 8 ns))
-
   -- the answer fits where 10 does not hold
   pub record Fits : Type 0 where
     pub ends : length (pieceRecords (allPieces t)) ≤ length (r .pieceEnds)
@@ -142,7 +139,7 @@ module _ (t : Task) (r : Rooms) where
   module _ (long : 64 ≤ length (r .answer)) (ns : List ℕ) (h : length ns ≤ 3) where
     untouched-lengths : SameLengths r (untouched r ns)
     unfolding untouched refusedWith
-    untouched-lengths = record { work = refl; pieces = refl; pieceEnds = refl; merges = refl; savings = refl; answer = told-length long ns h }
+    untouched-lengths = record { work = refl; pieces = refl; pieceEnds = refl; merges = refl; savings = refl; answer = length-told (r .answer) ns long h }
 
     cleared-lengths : SameLengths r (cleared r ns)
     unfolding cleared refusedWith
@@ -152,7 +149,7 @@ module _ (t : Task) (r : Rooms) where
       pieceEnds = length-wiped _;
       merges = length-wiped _;
       savings = length-wiped _;
-      answer = told-length long ns h;
+      answer = length-told (r .answer) ns long h;
     }
 
     written-lengths : Fits → SameLengths r (written t r ns)
@@ -163,7 +160,7 @@ module _ (t : Task) (r : Rooms) where
       pieceEnds = length-filled _ _ (f .ends);
       merges = length-filled _ _ (f .merges);
       savings = length-filled _ _ (f .savings);
-      answer = told-length long ns h;
+      answer = length-told (r .answer) ns long h;
     }
 
   -- which case it is: a short answer run, success, 8 to 10, or another refusal
@@ -174,17 +171,15 @@ module _ (t : Task) (r : Rooms) where
     keeping : 64 ≤ length (r .answer) → trainOutcome t r .rooms ≡ untouched r (verdict t r .gives) → Case
 
   pub case : Case
-  case = go (ltb (length (r .answer)) 64) refl
+  case =
+      below-or-not (length (r .answer)) 64 isShort
+      (λ long. by long (eqb (verdict t r .number) 0) (leb 8 (verdict t r .number)) (leb (verdict t r .number) 10) refl refl refl)
     where
       by : (long : 64 ≤ length (r .answer)) (a b c : Bool) → eqb (verdict t r .number) 0 ≡ a → leb 8 (verdict t r .number) ≡ b → leb (verdict t r .number) 10 ≡ c → Case
       by long true b c p q s = succeeds long (eqb-true _ _ p)
       by long false true true p q s = clearing long (rooms-cleared long (leb-true _ _ q) (leb-true _ _ s))
       by long false true false p q s = keeping long (rooms-untouched long (eqb-false _ _ p) (rw (q, s)))
       by long false false c p q s = keeping long (rooms-untouched long (eqb-false _ _ p) (rw q))
-
-      go : (c : Bool) → ltb (length (r .answer)) 64 ≡ c → Case
-      go true e = isShort (ltb-true _ _ e)
-      go false e = by (ltb-false _ _ e) (eqb (verdict t r .number) 0) (leb 8 (verdict t r .number)) (leb (verdict t r .number) 10) refl refl refl
 
   -- EVERY RUN KEEPS ITS LENGTH, whatever came in
   pub lengths-stay : SameLengths r (trainOutcome t r .rooms)

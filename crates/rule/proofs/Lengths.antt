@@ -13,7 +13,7 @@ use Rattle.rule.specs.Table.{total}
 use Rattle.rule.specs.Training.{Merge}
 use Rattle.rule.specs.Layout.{pieceBytes, pieceRecords, mergeBytes, savingBytes}
 use Rattle.rule.specs.Rewriting.{Report}
-use Rattle.rule.specs.Outcome.{wiped, reportBytes}
+use Rattle.rule.specs.Outcome.{told, wiped, reportBytes}
 use Rattle.runs.proofs.Parts.{length-zeros}
 use Rattle.numbers.proofs.Little.{length-spell}
 
@@ -60,6 +60,11 @@ length-filled run new h = simp (length-append, length-zeros) (omega arith)
 pub filled-rest : (run new : List ℕ) → drop (length new) (filled run new) ≡ zeros (length run - length new)
 unfolding filled
 filled-rest run new = drop-append-seam new (zeros (length run - length new))
+
+-- the answer run is as long as before: up to three numbers fit
+pub length-told : (answer ns : List ℕ) → 64 ≤ length answer → length ns ≤ 3 → length (told answer ns) ≡ length answer
+unfolding told
+length-told answer ns long few = length-filled answer (spellAll 8 ns) (omega (arith, length-spellAll 8 ns))
 
 -- what the trainer writes
 pub length-pieceBytes : (ps : List (List ℕ)) → length (pieceBytes ps) ≡ total (map length ps)

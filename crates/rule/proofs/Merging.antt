@@ -1,6 +1,6 @@
 -- What reading a piece and merging symbols leave, for every input.
-use mathlib.Core.Path.{_≡_, refl}
-use mathlib.Core.Bool.{Bool, true, false, cond, _||_, not}
+use mathlib.Core.Path.{_≡_, refl, sym, _∙_}
+use mathlib.Core.Bool.{Bool, true, false, cond, _||_, not, false≢true}
 use mathlib.Core.List.{List, [], _∷_, flatMap}
 use mathlib.Core.Logic.{_≢_}
 use Prim.Native.Nat.{ℕ, _*_, _%_, _≤_, _<_}
@@ -15,14 +15,10 @@ use Rattle.rule.specs.Rewriting.{rewrite, rewrites, reports}
 use Rattle.rule.specs.Layout.{pieceShape, pieceCount, pieceStart, pieceLength}
 use Rattle.rule.specs.Refusals.{Verdict, says}
 use Rattle.rule.specs.Outcome.{short, told, reportBytes, lookUp, pieceOutcome, mergeVerdict, Merged, mergeOutcome}
-use Rattle.runs.proofs.Parts.{length-laid}
+use Rattle.runs.proofs.Parts.{below-or-not, length-laid}
 use Rattle.numbers.proofs.Cells.{length-numbers}
-use Rattle.rule.proofs.Lengths.{length-spellAll, length-filled, length-reports}
+use Rattle.rule.proofs.Lengths.{length-spellAll, length-told, length-reports}
 use Rattle.rule.proofs.Rewriting.{length-rewrite}
-
-told-length : (answer : List ℕ) → 64 ≤ length answer → (ns : List ℕ) → length ns ≤ 3 → length (told answer ns) ≡ length answer
-unfolding told
-told-length answer long ns h = length-filled answer (spellAll 8 ns) (omega (arith, length-spellAll 8 ns))
 
 -- READING A PIECE (its table is only read)
 module _ (pieces ends : List ℕ) (n : ℕ) (answer : List ℕ) where
@@ -47,7 +43,7 @@ module _ (pieces ends : List ℕ) (n : ℕ) (answer : List ℕ) where
     where
       go : (p q r : Bool) → pieceShape pieces ends ≡ p → ltb 16777216 (pieceCount ends) ≡ q → leb (pieceCount ends) n ≡ r
           → Looks (cond (not p || q) (says 1 []) (cond r (says 11 []) (says 0 (pieceStart ends n ∷ pieceLength ends n ∷ []))))
-      go false q r d e f = badShape (λ h k. let z : _≡_ {A = ℕ} 0 1 = cc in omega arith)
+      go false q r d e f = badShape (λ h k. false≢true (sym d ∙ h))
       go true true r d e f = let l : 16777216 < pieceCount ends = ltb-true _ _ e in badShape (λ h k. omega arith)
       go true false true d e f = noSuchId d (ltb-false _ _ e) (leb-true _ _ f)
       go true false false d e f = done d (ltb-false _ _ e) (leb-false _ _ f)
@@ -58,11 +54,8 @@ module _ (pieces ends : List ℕ) (n : ℕ) (answer : List ℕ) where
   look-few v (done h k l) = omega arith
 
   pub read-length : length (pieceOutcome pieces ends n answer .answer) ≡ length answer
-  read-length = go (ltb (length answer) 64) refl
-    where
-      go : (c : Bool) → ltb (length answer) 64 ≡ c → length (pieceOutcome pieces ends n answer .answer) ≡ length answer
-      go true e = rw (read-short (ltb-true _ _ e))
-      go false e = rw (read-long (ltb-false _ _ e)) (told-length answer (ltb-false _ _ e) _ (look-few _ look-says))
+  read-length =
+      below-or-not (length answer) 64 (λ h. rw (read-short h)) (λ h. rw (read-long h) (length-told answer _ h (look-few _ look-says)))
 
 -- MERGING SYMBOLS
 module _ (s : List ℕ) (a b x : ℕ) (c into : List ℕ) where
@@ -125,10 +118,10 @@ module _ (s : List ℕ) (a b x : ℕ) (c into : List ℕ) where
           (record { returned = 0; symbols = laid s 0 (spellAll 4 (rewrite a b x (numbers 4 s))); changes = laid c 0 (flatMap reportBytes (reports a b x (numbers 4 s))); answer = told into (u .gives) })
           (record { returned = u .number; symbols = s; changes = c; answer = told into (u .gives) })))
       go true e u j = record { symbols = refl; changes = refl; answer = refl }
-      go false e u (badShape h) = record { symbols = refl; changes = refl; answer = told-length into (ltb-false _ _ e) _ (omega arith) }
-      go false e u (changeRoom h k l) = record { symbols = refl; changes = refl; answer = told-length into (ltb-false _ _ e) _ (omega arith) }
+      go false e u (badShape h) = record { symbols = refl; changes = refl; answer = length-told into _ (ltb-false _ _ e) (omega arith) }
+      go false e u (changeRoom h k l) = record { symbols = refl; changes = refl; answer = length-told into _ (ltb-false _ _ e) (omega arith) }
       go false e u (done h k l) = record {
         symbols = length-laid s 0 _ (omega (arith, length-spellAll 4 (rewrite a b x (numbers 4 s)), length-rewrite a b x (numbers 4 s), length-numbers 4 s));
         changes = length-laid c 0 _ (omega (arith, length-reports (reports a b x (numbers 4 s)), l));
-        answer = told-length into (ltb-false _ _ e) _ (omega arith);
+        answer = length-told into _ (ltb-false _ _ e) (omega arith);
       }

@@ -153,7 +153,7 @@ units-named c = units-ind c (λ w us. Bytes w → (u : List ℕ) → In u us →
     more w us h f b u (inl e) = rw e (named-head c w h b)
     more w us h f b u (inr i) = f (drop-bytes (unitLen c w) w b) u i
 
-pub unit-named : (seeding : ℕ) (w u : List ℕ) → Bytes w → In u (units seeding w) → (c : ℕ) × (c < 1114368) × (u ≡ unitNamed c)
+pub unit-named : (seeding : ℕ) (w u : List ℕ) → Bytes w → In u (units seeding w) → Named u
 unfolding units seeded
 unit-named seeding w u b i = units-named _ w b u i
 
@@ -190,7 +190,7 @@ module _ (t : Task) (u : List ℕ) where
       go (v ∷ us) s (inl e) = rw e (s .0, s .1)
       go (v ∷ us) s (inr j) = go us (s .2) j
 
-pub task-named : (t : Task) → Bytes (t .wordBytes) → (u : List ℕ) → In u (flatMap (λ w. w) (wordUnits t)) → (c : ℕ) × (c < 1114368) × (u ≡ unitNamed c)
+pub task-named : (t : Task) → Bytes (t .wordBytes) → (u : List ℕ) → In u (flatMap (λ w. w) (wordUnits t)) → Named u
 task-named t b u i = let f = task-word t u i in unit-named (t .seeding) (f .0) u (f .1 b) (f .2)
 
 -- UNITS WITHOUT REPEATS: at most as many as there are names, and as there are units

@@ -1,12 +1,12 @@
 -- Lists of tests: none holds, the place of the first that does.
-use mathlib.Core.Path.{_≡_, refl}
-use mathlib.Core.Bool.{Bool, true, false}
+use mathlib.Core.Path.{_≡_, refl, sym, _∙_}
+use mathlib.Core.Bool.{Bool, true, false, true≢false}
 use mathlib.Core.List.{List, [], _∷_}
 use Prim.Native.Nat.{ℕ, zero, suc, _<_}
 use native.Mathlib.Omega.{arith}
-use lib.Dec.{ltb}
+use lib.Dec.{ltb, leb·suc-suc}
 use lib.ListN.{length, getD}
-use borrow.Author.Tests.{lt-ltb, le-ltb, ltb-true, ltb-false}
+use borrow.Author.Tests.{lt-ltb}
 use Rattle.rule.specs.Shapes.{some?, first}
 
 -- none of some tests holds
@@ -17,31 +17,20 @@ None (b ∷ bs) = (b ≡ false) × None bs
 pub none : (bs : List Bool) → some? bs ≡ false → None bs
 unfolding some?
 none [] e = tt
-none (true ∷ bs) e = let z : _≡_ {A = ℕ} 0 1 = cc in absurd (omega arith)
+none (true ∷ bs) e = absurd (true≢false e)
 none (false ∷ bs) e = (refl, none bs e)
-
-pub none-at : (bs : List Bool) → some? bs ≡ false → (i : ℕ) → getD bs i false ≡ false
-unfolding some?
-none-at [] e i = refl
-none-at (true ∷ bs) e i = let z : _≡_ {A = ℕ} 0 1 = cc in absurd (omega arith)
-none-at (false ∷ bs) e zero = refl
-none-at (false ∷ bs) e (suc i) = none-at bs e i
 
 -- one holds exactly where the first place is a place of the list
 pub some-first : (bs : List Bool) → some? bs ≡ ltb (first bs) (length bs)
 unfolding some? first
 some-first [] = refl
 some-first (true ∷ bs) = rw (lt-ltb 0 (suc (length bs)) (omega arith))
-some-first (false ∷ bs) = go (ltb (first bs) (length bs)) refl (some-first bs)
-  where
-    go : (c : Bool) → ltb (first bs) (length bs) ≡ c → some? bs ≡ c → some? bs ≡ ltb (suc (first bs)) (suc (length bs))
-    go true e h = let k = ltb-true (first bs) (length bs) e in rw (lt-ltb (suc (first bs)) (suc (length bs)) (omega arith)) h
-    go false e h = let k = ltb-false (first bs) (length bs) e in rw (le-ltb (suc (first bs)) (suc (length bs)) (omega arith)) h
+some-first (false ∷ bs) = some-first bs ∙ sym (leb·suc-suc (suc (first bs)) (length bs))
 
 -- at the first place the test holds, and before it none does
 pub first-holds : (bs : List Bool) → some? bs ≡ true → getD bs (first bs) false ≡ true
 unfolding some? first
-first-holds [] e = let z : _≡_ {A = ℕ} 0 1 = cc in absurd (omega arith)
+first-holds [] e = cc
 first-holds (true ∷ bs) e = refl
 first-holds (false ∷ bs) e = first-holds bs e
 

@@ -1,6 +1,6 @@
 -- The conditions of refusals 1 to 7 and 9 in plain terms: what is known of a table of which they do not hold.
-use mathlib.Core.Path.{_≡_, refl}
-use mathlib.Core.Bool.{Bool, true, false, _&&_}
+use mathlib.Core.Path.{_≡_}
+use mathlib.Core.Bool.{true, and-eq-true-iff}
 use mathlib.Core.List.{List, [], _∷_, map}
 use Prim.Native.Nat.{ℕ, zero, suc, _/_, _%_, _^_, _≤_, _<_}
 use native.Mathlib.Omega.{arith}
@@ -8,7 +8,7 @@ use lib.Dec.{eqb, leb}
 use lib.ListN.{length, getD}
 use borrow.Author.Tests.{ltb-false, leb-true, leb-false, eqb-true, eqb-false, not-false}
 use Rattle.numbers.specs.Little.{numbers}
-use Rattle.rule.specs.Shapes.{riseTo, shaped}
+use Rattle.rule.specs.Shapes.{wholes, riseTo, shaped}
 use Rattle.rule.specs.Table.{Task, Rooms, words, wordCount, frequencies, A, wordUnits, weighed, workNeeded}
 use Rattle.rule.specs.Seeding.{seeds}
 use Rattle.rule.specs.Training.{trained}
@@ -19,11 +19,6 @@ use Rattle.rule.proofs.Order.{Lt, below-lt, below-trans, Rising}
 use Rattle.rule.proofs.Judged.{Accepted}
 use Rattle.rule.proofs.Demand.{demand-holds}
 
--- both of two tests
-and-true : (c d : Bool) → (c && d) ≡ true → (c ≡ true) × (d ≡ true)
-and-true true d e = (refl, e)
-and-true false d e = let z : _≡_ {A = ℕ} 0 1 = cc in absurd (omega arith)
-
 -- ENDS THAT RISE: none is below the one before, and the last is the byte length
 pub record Rises (n from : ℕ) (es : List ℕ) : Type 0 where
   pub up : (i : ℕ) → i < length es → getD (from ∷ es) i 0 ≤ getD es i 0
@@ -32,7 +27,7 @@ pub record Rises (n from : ℕ) (es : List ℕ) : Type 0 where
 pub rise-ends : (n from : ℕ) (es : List ℕ) → riseTo n from es ≡ true → Rises n from es
 unfolding riseTo
 rise-ends n from [] e = record { up = λ i h. absurd (omega arith); last = eqb-true from n e }
-rise-ends n from (d ∷ es) e = go (and-true (leb from d) (riseTo n d es) e) (rise-ends n d es)
+rise-ends n from (d ∷ es) e = go (and-eq-true-iff (leb from d) (riseTo n d es) .0 e) (rise-ends n d es)
   where
     go : (leb from d ≡ true) × (riseTo n d es ≡ true) → (riseTo n d es ≡ true → Rises n d es) → Rises n from (d ∷ es)
     go h f = record { up = each; last = f (h .1) .last }
@@ -49,7 +44,7 @@ pub record Shape (run ends : List ℕ) : Type 0 where
 shape : (run ends : List ℕ) → shaped run ends ≡ true → Shape run ends
 unfolding shaped
 shape run ends e =
-    let h = and-true _ _ e in
+    let h = and-eq-true-iff (wholes 4 ends) (riseTo (length run) 0 (numbers 4 ends)) .0 e in
     record { whole = eqb-true _ _ (h .0); rises = rise-ends _ _ _ (h .1) }
 
 -- 1 does not hold

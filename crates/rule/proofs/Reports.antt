@@ -8,7 +8,7 @@ use Prim.Native.Nat.{ℕ, _+_}
 use native.Mathlib.Omega.{arith}
 use Rattle.rule.specs.Rewriting.{bit, isPair, Span, one, hit, cut, src, out, hits, Report, before, after, reportsFrom, rewrite, rewrites, reports, link, countIn}
 use Rattle.rule.specs.Sums.{raised, lowered}
-use Rattle.rule.proofs.Rewriting.{pair-miss, src-cut, link-left, link-right, rewrites-none}
+use Rattle.rule.proofs.Rewriting.{pair-miss, src-cut, link-left, link-right}
 
 -- the clauses of the reports, as equations to rewrite by
 pub reports-hit : (a b x : ℕ) (v : Option ℕ) (ps : List Span)
@@ -121,14 +121,3 @@ module _ (p q : ℕ) where
     pub never-raised : (w : List ℕ) → raised p q (reports a b x w) ≡ 0
     unfolding reports
     never-raised w = raised-from-none none (cut a b w)
-
--- A WORD THAT DOES NOT HOLD THE PAIR has no reports
-from-none : (a b x : ℕ) (v : Option ℕ) (ps : List Span) → hits ps ≡ 0 → reportsFrom a b x v ps ≡ []
-unfolding reportsFrom hits
-from-none a b x v [] h = refl
-from-none a b x v (one s ∷ ps) h = from-none a b x (some s) ps h
-from-none a b x v (hit ∷ ps) h = absurd (omega arith)
-
-pub reports-none : (a b x : ℕ) (w : List ℕ) → countIn a b w ≡ 0 → reports a b x w ≡ []
-unfolding reports rewrites
-reports-none a b x w h = from-none a b x none (cut a b w) (rewrites-none a b w h)

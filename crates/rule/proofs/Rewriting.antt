@@ -1,6 +1,6 @@
 -- Rewriting one word: each rewrite costs a symbol, the pair is gone, and what another pair can gain.
-use mathlib.Core.Path.{_≡_, refl, ap, _∙_}
-use mathlib.Core.Bool.{Bool, true, false, cond, _&&_}
+use mathlib.Core.Path.{_≡_, refl, sym, ap, _∙_}
+use mathlib.Core.Bool.{Bool, true, false, cond, _&&_, and-eq-true-iff, false≢true}
 use mathlib.Core.List.{List, [], _∷_}
 use mathlib.Core.Logic.{_≢_}
 use Prim.Native.Nat.{ℕ, _+_, _≤_}
@@ -11,23 +11,15 @@ use borrow.Author.Tests.{eqb-true, eq-eqb}
 use Rattle.rule.specs.Rewriting.{bit, isPair, Span, one, hit, cut, src, out, hits, rewrite, rewrites, link, countIn}
 use Rattle.rule.specs.Sums.{occurs}
 
--- a test that passed, a test that failed, and the other way
+-- what the test of a pair tells, and the other way
 pub pair-true : (p q s t : ℕ) → isPair p q s t ≡ true → (s ≡ p) × (t ≡ q)
-pair-true p q s t e = go (eqb s p) refl e
-  where
-    go : (c : Bool) → eqb s p ≡ c → (c && eqb t q) ≡ true → (s ≡ p) × (t ≡ q)
-    go true h k = (eqb-true s p h, eqb-true t q k)
-    go false h k = let z : _≡_ {A = ℕ} 0 1 = cc in absurd (omega arith)
-
-pub pair-false : (p q s t : ℕ) → isPair p q s t ≡ false → s ≡ p → t ≡ q → ⊥
-pair-false p q s t e hs ht =
-    let h = eq-eqb s p hs in
-    let k = eq-eqb t q ht in
-    let z : _≡_ {A = ℕ} 0 1 = cc in
-    omega arith
+pair-true p q s t e = let b = and-eq-true-iff (eqb s p) (eqb t q) .0 e in (eqb-true s p (b .0), eqb-true t q (b .1))
 
 pub pair-hit : (p q s t : ℕ) → s ≡ p → t ≡ q → isPair p q s t ≡ true
 pair-hit p q s t hs ht = simp (eq-eqb s p hs, eq-eqb t q ht)
+
+pub pair-false : (p q s t : ℕ) → isPair p q s t ≡ false → s ≡ p → t ≡ q → ⊥
+pair-false p q s t e hs ht = false≢true (sym e ∙ pair-hit p q s t hs ht)
 
 pub pair-miss : (p q s t : ℕ) → (s ≡ p → t ≡ q → ⊥) → isPair p q s t ≡ false
 pair-miss p q s t h = go (isPair p q s t) refl
@@ -181,10 +173,6 @@ cut-none a b (s ∷ t ∷ r) h = go (isPair a b s t) (cut-none a b (t ∷ r)) h
     go : (c : Bool) → (countIn a b (t ∷ r) ≡ 0 → hits (cut a b (t ∷ r)) ≡ 0) → bit c + countIn a b (t ∷ r) ≡ 0 → hits (cond c (hit ∷ cut a b r) (one s ∷ cut a b (t ∷ r))) ≡ 0
     go true f k = absurd (omega arith)
     go false f k = f (omega arith)
-
-pub rewrites-none : (a b : ℕ) (w : List ℕ) → countIn a b w ≡ 0 → rewrites a b w ≡ 0
-unfolding rewrites
-rewrites-none a b w h = cut-none a b w h
 
 out-none : (a b x : ℕ) (ps : List Span) → hits ps ≡ 0 → out x ps ≡ src a b ps
 unfolding out src hits

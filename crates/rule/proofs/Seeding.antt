@@ -1,6 +1,6 @@
 -- Interning: a number, once given, stays, is the lowest with its spelling, and spells it. Every symbol of a kept word is a seed's number.
 use mathlib.Core.Path.{_≡_, refl, sym, ap, _∙_}
-use mathlib.Core.Bool.{Bool, true, false, cond, _||_}
+use mathlib.Core.Bool.{Bool, true, false, _||_, false≢true}
 use mathlib.Core.List.{List, [], _∷_, _++_, map, flatMap, foldl}
 use mathlib.Core.Logic.{_≢_}
 use Prim.Native.Nat.{ℕ, zero, suc, _<_}
@@ -12,6 +12,7 @@ use Rattle.rule.specs.Table.{Task, frequencies, alphabet, wordUnits}
 use Rattle.rule.specs.Seeding.{decorated, numberOf, intern, firstSeeds, seeds, Entry, keep, keptWith, kept}
 use Rattle.rule.specs.Sums.{Under, AllUnder}
 use Rattle.runs.proofs.Ordered.{same-true, same-refl}
+use Rattle.rfc3629.proofs.Rows.{cond-elim}
 
 -- a spelling is among the pieces
 unfoldable pub Has : List (List ℕ) → List ℕ → Type 0
@@ -34,14 +35,13 @@ module _ (s : List ℕ) where
 
   pub found : (ps : List (List ℕ)) → Has ps s → Found ps
   unfolding Has some?
-  found [] h = let z : _≡_ {A = ℕ} 0 1 = cc in absurd (omega arith)
+  found [] h = absurd (false≢true h)
   found (p ∷ ps) h = go (same s p) refl h (found ps)
     where
       below : same s p ≡ false → ((j : ℕ) → j < numberOf ps s → getD ps j [] ≢ s) → (j : ℕ) → j < suc (numberOf ps s) → getD (p ∷ ps) j [] ≢ s
       below e f zero h q =
           let k : same s p ≡ true = rw q (same-refl s) in
-          let z : _≡_ {A = ℕ} 0 1 = cc in
-          omega arith
+          false≢true (sym e ∙ k)
       below e f (suc j) h q = f j (omega arith) q
 
       go : (c : Bool) → same s p ≡ c → (c || some? (map (same s) ps)) ≡ true → (Has ps s → Found ps) → Found (p ∷ ps)
@@ -56,7 +56,7 @@ module _ (s : List ℕ) where
   -- more pieces behind change nothing
   pub number-append : (ps qs : List (List ℕ)) → Has ps s → numberOf (ps ++ qs) s ≡ numberOf ps s
   unfolding Has some? numberOf first
-  number-append [] qs h = let z : _≡_ {A = ℕ} 0 1 = cc in absurd (omega arith)
+  number-append [] qs h = cc
   number-append (p ∷ ps) qs h = go (same s p) h (number-append ps qs)
     where
       go : (c : Bool) → (c || some? (map (same s) ps)) ≡ true → (Has ps s → numberOf (ps ++ qs) s ≡ numberOf ps s)
@@ -66,7 +66,7 @@ module _ (s : List ℕ) where
 
   pub has-append : (ps qs : List (List ℕ)) → Has ps s → Has (ps ++ qs) s
   unfolding Has some?
-  has-append [] qs h = let z : _≡_ {A = ℕ} 0 1 = cc in absurd (omega arith)
+  has-append [] qs h = absurd (false≢true h)
   has-append (p ∷ ps) qs h = go (same s p) h (has-append ps qs)
     where
       go : (c : Bool) → (c || some? (map (same s) ps)) ≡ true → (Has ps s → Has (ps ++ qs) s) → (c || some? (map (same s) (ps ++ qs))) ≡ true
@@ -85,20 +85,14 @@ module _ (s : List ℕ) where
   -- an interned spelling is there
   pub has-intern : (ps : List (List ℕ)) → Has (intern ps s) s
   unfolding intern Has
-  has-intern ps = go (some? (map (same s) ps)) refl
-    where
-      go : (c : Bool) → some? (map (same s) ps) ≡ c → Has (cond c ps (ps ++ (s ∷ []))) s
-      go true e = e
-      go false e = has-last ps
+  has-intern ps = cond-elim (λ qs. Has qs s) (some? (map (same s) ps)) (λ e. e) (λ e. has-last ps)
 
   -- and interning others leaves it its number
   pub intern-stays : (ps : List (List ℕ)) (u : List ℕ) → Has ps s → Has (intern ps u) s × (numberOf (intern ps u) s ≡ numberOf ps s)
   unfolding intern
-  intern-stays ps u h = go (some? (map (same u) ps))
-    where
-      go : (c : Bool) → Has (cond c ps (ps ++ (u ∷ []))) s × (numberOf (cond c ps (ps ++ (u ∷ []))) s ≡ numberOf ps s)
-      go true = (h, refl)
-      go false = (has-append ps (u ∷ []) h, number-append ps (u ∷ []) h)
+  intern-stays ps u h =
+      cond-elim (λ qs. Has qs s × (numberOf qs s ≡ numberOf ps s)) (some? (map (same u) ps))
+      (λ e. (h, refl)) (λ e. (has-append ps (u ∷ []) h, number-append ps (u ∷ []) h))
 
   pub interns-stay : (us ps : List (List ℕ)) → Has ps s → Has (foldl intern ps us) s × (numberOf (foldl intern ps us) s ≡ numberOf ps s)
   interns-stay [] ps h = (h, refl)

@@ -1,6 +1,6 @@
 -- Decoration place by place, the prefix taken off, and the byte values.
 use mathlib.Core.Path.{_≡_, refl, sym, ap, _∙_}
-use mathlib.Core.Bool.{Bool, true, false, cond, _&&_}
+use mathlib.Core.Bool.{true, false, cond, and-eq-true-iff}
 use mathlib.Core.List.{List, [], _∷_, _++_, map, append-nil}
 use Prim.Native.Nat.{ℕ, zero, suc, _+_, _<_}
 use native.Mathlib.Nat.{add-zero}
@@ -63,13 +63,10 @@ leads-append (b ∷ p) s = rw (eq-eqb b b refl) (leads-append p s)
 pub leads-true : (p piece : List ℕ) → leads p piece ≡ true → piece ≡ p ++ drop (length p) piece
 unfolding leads
 leads-true [] piece e = refl
-leads-true (b ∷ p) [] e = let z : _≡_ {A = ℕ} 0 1 = cc in absurd (omega arith)
-leads-true (b ∷ p) (c ∷ piece) e = go (eqb b c) refl e (leads-true p piece)
-  where
-    go : (x : Bool) → eqb b c ≡ x → (x && leads p piece) ≡ true → (leads p piece ≡ true → piece ≡ p ++ drop (length p) piece)
-        → c ∷ piece ≡ b ∷ (p ++ drop (length p) piece)
-    go true h k f = rw (eqb-true b c h) (ap (λ (l : List ℕ). c ∷ l) (f k))
-    go false h k f = let z : _≡_ {A = ℕ} 0 1 = cc in absurd (omega arith)
+leads-true (b ∷ p) [] e = cc
+leads-true (b ∷ p) (c ∷ piece) e =
+    let h = and-eq-true-iff (eqb b c) (leads p piece) .0 e in
+    rw (eqb-true b c (h .0)) (ap (λ (l : List ℕ). c ∷ l) (leads-true p piece (h .1)))
 
 pub strip-has : (p s : List ℕ) → stripPrefix p (p ++ s) ≡ s
 unfolding stripPrefix

@@ -1,8 +1,7 @@
 -- The laws of `nth`, `put`, `part`, `laid` and `zeros`. Assumes nothing.
 use mathlib.Core.Path.{_≡_, refl, sym, ap, _∙_}
 use mathlib.Core.List.{List, [], _∷_, _++_, append-assoc, append-nil}
-use mathlib.Core.Logic.{_⊎_, inl, inr}
-use Prim.Native.Nat.{ℕ, zero, suc, _+_, _-_, _<_, _≤_}
+use Prim.Native.Nat.{ℕ, suc, _+_, _-_, _<_, _≤_}
 use native.Mathlib.Omega.{arith}
 use native.Mathlib.Nat.{le-trans}
 use native.Mathlib.Numerals.{add-one}
@@ -176,15 +175,6 @@ module _ (xs : List ℕ) (at : ℕ) (ys : List ℕ) (fits : at + length ys ≤ l
   pub part-laid-in : (a m : ℕ) → a + m ≤ length ys → part (at + a) m (laid xs at ys) ≡ part a m ys
   part-laid-in a m h =
       sym (part-part a m at (length ys) (laid xs at ys) h (omega (arith, length-laid))) ∙ ap (λ (l : List ℕ). part a m l) part-laid
-
-  pub laid-bytes : Bytes xs → Bytes ys → Bytes (laid xs at ys)
-  laid-bytes b d j =
-      below-or-not j at
-      (λ h. rw (nth-laid-before j h) (b j))
-      (λ h.
-      below-or-not (j - at) (length ys)
-      (λ k. let e : j ≡ at + (j - at) = omega arith in rw (e, nth-laid (j - at) k) (d (j - at)))
-      (λ k. rw (nth-laid-after j (omega arith)) (b j)))
 
 -- a number more at the end, and at the front
 pub laid-more : (xs : List ℕ) (at : ℕ) (ys : List ℕ) (v : ℕ) → at + length ys < length xs

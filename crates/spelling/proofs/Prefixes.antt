@@ -1,6 +1,6 @@
 -- The laws of a prefix: the loop that looks for it, and the piece without it. Assumes nothing.
 use mathlib.Core.Path.{_≡_, refl, sym, ap, _∙_}
-use mathlib.Core.Bool.{Bool, true, false, cond, _&&_}
+use mathlib.Core.Bool.{Bool, true, false, cond, and-eq-true-iff, false≢true}
 use mathlib.Core.List.{List, [], _∷_}
 use Prim.Native.Nat.{ℕ, _+_, _-_, _<_, _≤_}
 use native.Mathlib.Omega.{arith}
@@ -16,16 +16,12 @@ use Rattle.rule.specs.Spelling.{leads, stripPrefix}
 unfoldable pub leadsFrom : List ℕ → List ℕ → ℕ → Bool
 leadsFrom p x i = leads (drop i p) (drop i x)
 
-and-right : (a b : Bool) → (a && b) ≡ true → b ≡ true
-and-right true b e = e
-and-right false b e = let z : _≡_ {A = ℕ} 0 1 = cc in absurd (omega arith)
-
 -- a piece has no prefix that is longer
 pub leads-long : (p x : List ℕ) → leads p x ≡ true → length p ≤ length x
 unfolding leads
 leads-long [] x e = omega arith
-leads-long (b ∷ p) [] e = let z : _≡_ {A = ℕ} 0 1 = cc in absurd (omega arith)
-leads-long (b ∷ p) (c ∷ x) e = omega (arith, leads-long p x (and-right (eqb b c) (leads p x) e))
+leads-long (b ∷ p) [] e = absurd (false≢true e)
+leads-long (b ∷ p) (c ∷ x) e = omega (arith, leads-long p x (and-eq-true-iff (eqb b c) (leads p x) .0 e .1))
 
 pub leads-shorter : (p x : List ℕ) → length x < length p → false ≡ leads p x
 leads-shorter p x h = go (leads p x) refl

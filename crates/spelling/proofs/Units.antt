@@ -19,16 +19,7 @@ module _ (p s : List ℕ) where
   unfolding dressedFrom
   dressed-none isFirst = refl
 
-  pub dressed-last : (isFirst : Bool) (u : List ℕ) → dressedFrom p s isFirst (u ∷ []) ≡ dressed p s isFirst true u ∷ []
-  unfolding dressedFrom
-  dressed-last isFirst u = refl
-
-  pub dressed-more : (isFirst : Bool) (u v : List ℕ) (us : List (List ℕ))
-      → dressedFrom p s isFirst (u ∷ v ∷ us) ≡ dressed p s isFirst false u ∷ dressedFrom p s false (v ∷ us)
-  unfolding dressedFrom
-  dressed-more isFirst u v us = refl
-
-  -- the last two in one: a unit is the last if none stands behind it
+  -- a unit is the last if none stands behind it
   pub dressed-next : (isFirst : Bool) (u : List ℕ) (us : List (List ℕ))
       → dressedFrom p s isFirst (u ∷ us) ≡ dressed p s isFirst (eqb 0 (length us)) u ∷ dressedFrom p s false us
   unfolding dressedFrom

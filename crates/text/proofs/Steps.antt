@@ -1,17 +1,17 @@
--- For a caller that goes over the units of a word with `whole` and `next_unit`: the start, a step, the end; the same for their number and
--- for a list of those passed; the word back from its units; and that each contract leaves one answer. Assumes nothing.
+-- For a caller that goes over the units of a word with `whole` and `next_unit`: the start, a step, the end; and that each contract leaves
+-- one answer. Assumes nothing.
 use mathlib.Core.Path.{_≡_, refl, sym, ap, _∙_}
 use mathlib.Core.Bool.{Bool, _&&_}
-use mathlib.Core.List.{List, [], _∷_, _++_, append-nil}
+use mathlib.Core.List.{List, [], _∷_, _++_}
 use Prim.Native.Nat.{ℕ, _+_, _-_, _≤_, _<_}
 use native.Mathlib.Omega.{arith}
 use lib.ListN.{length, take, drop}
 use borrow.Author.Tests.{eqb-true, eqb-false}
-use lib.Seq.{take-at, drop-at, append-snoc}
+use lib.Seq.{take-at, drop-at}
 use Rattle.runs.specs.Parts.{part}
 use Rattle.runs.proofs.Parts.{length-part, part-split, part-none}
-use Rattle.rfc3629.specs.Cut.{wellFormed, unitLen, unitsBy, seeded, together}
-use Rattle.rfc3629.proofs.Units.{unit-bounds, units-nil, units-next, units-joined}
+use Rattle.rfc3629.specs.Cut.{wellFormed, unitLen, unitsBy, seeded}
+use Rattle.rfc3629.proofs.Units.{units-nil, units-next}
 use Rattle.rule.specs.Table.{chars, units}
 use Rattle.text.specs.Units.{settingOf, byChars, Next, Counted}
 use Rattle.text.specs.declared.Seeding.{Seeding}
@@ -22,10 +22,6 @@ use Rattle.text.specs.declared.Seeding.the-variants.{Bytes, Chars}
 pub whole-units : (whole byCharacters : Bool) (w : List ℕ) → whole ≡ (byCharacters && wellFormed w) → unitsBy whole w ≡ seeded byCharacters w
 unfolding seeded
 whole-units whole byCharacters w e = rw e
-
-pub setting-chars : (d : Seeding) → byChars d ≡ chars (settingOf d)
-unfolding byChars
-setting-chars d = refl
 
 module _ (d : Seeding) (number : ℕ) (k : byChars d ≡ chars number) where
   -- of a number that the shape rules let pass, it is that number's seeding
@@ -44,9 +40,6 @@ module _ (d : Seeding) (number : ℕ) (k : byChars d ≡ chars number) where
   pub start-units : (whole : Bool) (w : List ℕ) → whole ≡ (byChars d && wellFormed w) → unitsBy whole w ≡ units number w
   start-units whole w e = whole-units whole (byChars d) w e ∙ seeded-units w
 
-  pub start-count : (whole : Bool) (w : List ℕ) → whole ≡ (byChars d && wellFormed w) → 0 + length (unitsBy whole w) ≡ length (units number w)
-  start-count whole w e = rw (start-units whole w e) (omega arith)
-
   pub counted-units : (s : List ℕ) (from to r : ℕ) → Counted (byChars d) s from to r → r ≡ length (units number (part from (to - from) s))
   counted-units s from to r h = h .is ∙ ap length (seeded-units (part from (to - from) s))
 
@@ -55,17 +48,6 @@ module _ (whole : Bool) (s : List ℕ) (at to : ℕ) where
 
   pub last-units : to ≤ at → unitsBy whole (part at (to - at) s) ≡ []
   last-units h = let z : to - at ≡ 0 = omega arith in rw (z, part-none at s, units-nil whole)
-
-  pub last-count : (n m : ℕ) → n + length (unitsBy whole (part at (to - at) s)) ≡ m → to ≤ at → n ≡ m
-  last-count n m e h = let z = ap length (last-units h) in omega arith
-
-  pub last-passed : (us all : List (List ℕ)) → us ++ unitsBy whole (part at (to - at) s) ≡ all → to ≤ at → us ≡ all
-  last-passed us all e h = sym (append-nil us) ∙ (rw (last-units h) at e)
-
-  -- THE WORD BACK
-
-  pub units-word : together (unitsBy whole (part at (to - at) s)) ≡ part at (to - at) s
-  units-word = units-joined whole (part at (to - at) s)
 
   module _ (a : at < to) (b : to ≤ length s) where
     word-length : length (part at (to - at) s) ≡ to - at
@@ -92,23 +74,13 @@ module _ (whole : Bool) (s : List ℕ) (at to : ℕ) where
           ∙ ap (λ v. take k v ∷ unitsBy whole (drop k v)) next-bytes
           ∙ rw (take-at (part at (r - at) s) (part r (to - r) s) k l, drop-at (part at (r - at) s) (part r (to - r) s) k l)
 
-      pub next-count : (n m : ℕ) → n + length (unitsBy whole (part at (to - at) s)) ≡ m → n + 1 + length (unitsBy whole (part r (to - r) s)) ≡ m
-      next-count n m e = let z = ap length next-units in omega arith
-
-      pub next-passed : (us all : List (List ℕ)) → us ++ unitsBy whole (part at (to - at) s) ≡ all
-          → us ++ (part at (r - at) s ∷ []) ++ unitsBy whole (part r (to - r) s) ≡ all
-      next-passed us all e = append-snoc us (part at (r - at) s) (unitsBy whole (part r (to - r) s)) ∙ (rw next-units at e)
-
-      pub next-short : r ≤ at + 4
-      next-short = let u = unit-bounds whole (part at (to - at) s) (omega (arith, word-length)) in omega arith
-
 -- ONE ANSWER
 
 pub seeding-single : (d e : Seeding) → byChars d ≡ byChars e → d ≡ e
 unfolding byChars settingOf
 seeding-single Bytes Bytes h = refl
-seeding-single Bytes Chars h = let z : _≡_ {A = ℕ} 0 1 = cc in absurd (omega arith)
-seeding-single Chars Bytes h = let z : _≡_ {A = ℕ} 0 1 = cc in absurd (omega arith)
+seeding-single Bytes Chars h = cc
+seeding-single Chars Bytes h = cc
 seeding-single Chars Chars h = refl
 
 pub next-single : {whole : Bool} {s : List ℕ} {at to r q : ℕ} → Next whole s at to r → Next whole s at to q → r ≡ q

@@ -1,6 +1,6 @@
 -- Ends that rise: the test as a loop makes it, and what it tells of the ends when it is passed. Assumes nothing.
-use mathlib.Core.Path.{_≡_, refl, sym, ap, _∙_}
-use mathlib.Core.Bool.{Bool, true, false, _&&_}
+use mathlib.Core.Path.{_≡_, sym, ap, _∙_}
+use mathlib.Core.Bool.{Bool, true, false, and-eq-true-iff}
 use mathlib.Core.List.{List, [], _∷_}
 use Prim.Native.Nat.{ℕ, zero, suc, _+_, _/_, _%_, _≤_, _<_}
 use native.Mathlib.Omega.{arith}
@@ -10,7 +10,7 @@ use lib.ListN.{length, getD}
 use borrow.Author.Tests.{leb-true, eqb-true, le-leb, lt-leb, eq-eqb, ne-eqb}
 use Rattle.runs.specs.Parts.{nth}
 use Rattle.numbers.specs.Little.{numbers}
-use Rattle.rule.specs.Shapes.{riseTo, shaped}
+use Rattle.rule.specs.Shapes.{wholes, riseTo, shaped}
 use Rattle.vocab.specs.Places.{numbersFrom}
 use Rattle.vocab.proofs.Places.{numbers-start, numbers-step, numbers-end}
 
@@ -50,13 +50,9 @@ module _ (run ends : List ℕ) where
 
 -- ENDS THAT PASSED IT: each is at least the one before it, and at most the number of bytes
 
-and-both : (a b : Bool) → (a && b) ≡ true → (a ≡ true) × (b ≡ true)
-and-both true b e = (refl, e)
-and-both false b e = let z : _≡_ {A = ℕ} 0 1 = cc in absurd (omega arith)
-
 risen-cons : (n last e : ℕ) (es : List ℕ) → riseTo n last (e ∷ es) ≡ true → (last ≤ e) × (riseTo n e es ≡ true)
 unfolding riseTo
-risen-cons n last e es t = let b = and-both (leb last e) (riseTo n e es) t in (leb-true last e (b .0), b .1)
+risen-cons n last e es t = let b = and-eq-true-iff (leb last e) (riseTo n e es) .0 t in (leb-true last e (b .0), b .1)
 
 -- the ends from a place on rise from a number that is not past the last
 pub risen-low : (n last : ℕ) (es : List ℕ) → riseTo n last es ≡ true → last ≤ n
@@ -85,19 +81,8 @@ module _ (ends : List ℕ) (n i last : ℕ) (t : riseTo n last (numbersFrom 4 en
     pub risen-under : e ≤ n
     risen-under = risen-low n e (numbersFrom 4 ends (i + 1)) risen-rest
 
-  pub risen-end : length ends / 4 ≤ i → last ≡ n
-  unfolding riseTo
-  risen-end h = eqb-true last n (rw (numbers-end 4 ends i h) at t)
-
--- what the whole test tells
-module _ (run ends : List ℕ) where
-  shaped-parts : shaped run ends ≡ true → (length ends % 4 ≡ 0) × (riseTo (length run) 0 (numbers 4 ends) ≡ true)
-  unfolding shaped
-  shaped-parts t = let b = and-both (eqb (length ends % 4) 0) (riseTo (length run) 0 (numbers 4 ends)) t in (eqb-true (length ends % 4) 0 (b .0), b .1)
-
-  module _ (b : Bool) (e : b ≡ shaped run ends) (t : b ≡ true) where
-    pub shaped-whole : length ends % 4 ≡ 0
-    shaped-whole = shaped-parts (sym e ∙ t) .0
-
-    pub shaped-rises : riseTo (length run) 0 (numbersFrom 4 ends 0) ≡ true
-    shaped-rises = sym (rise-start ends (length run)) ∙ shaped-parts (sym e ∙ t) .1
+-- of ends in shape, from the first on
+pub shaped-rises : (run ends : List ℕ) (b : Bool) → b ≡ shaped run ends → b ≡ true → riseTo (length run) 0 (numbersFrom 4 ends 0) ≡ true
+unfolding shaped
+shaped-rises run ends b e t =
+    sym (rise-start ends (length run)) ∙ and-eq-true-iff (wholes 4 ends) (riseTo (length run) 0 (numbers 4 ends)) .0 (sym e ∙ t) .1

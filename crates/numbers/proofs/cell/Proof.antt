@@ -1,5 +1,4 @@
 -- `numbers::cell` meets its contract: a cell is a load.
-use borrow.Author.Needs.{needs}
 use native.Mathlib.Omega.{arith}
 use Rattle.numbers.proofs.Cells.{length-cells, nth-cells}
 use Rattle.numbers.proofs.cell.Statement.{statement}

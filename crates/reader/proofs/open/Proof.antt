@@ -84,11 +84,11 @@ module _ {M : Type 1} (𝓤 : URA M) (H : Heap 𝓤) (A : Atoms 𝓤) (W : Given
   module _ (C : Calls 𝓤 H) (Λ : Loops 𝓤 H) where
     walk : Is (ShrSlice (named 0) κ u8) s (vs ∷ []) → Is (ShrSlice (named 1) κ′ u8) t (vt ∷ []) → ent 𝓤 (onEntry 𝓤 H A opens.signature κs (q, (q′, tt)) (s, (t, tt)) at) (WpFn 𝓤 H C Λ code.function (vs ∷ vt ∷ []) Post)
     walk ps pt =
-        let ts = shr-slice-lawful 𝓤 H A W (named 0) κ u8 .typed s (vs ∷ []) ps .0 in
-        let tt′ = shr-slice-lawful 𝓤 H A W (named 1) κ′ u8 .typed t (vt ∷ []) pt .0 in
+        let typed-s = shr-slice-lawful 𝓤 H A W (named 0) κ u8 .typed s (vs ∷ []) ps .0 in
+        let typed-t = shr-slice-lawful 𝓤 H A W (named 1) κ′ u8 .typed t (vt ∷ []) pt .0 in
         qed W (raw (onEntry 𝓤 H A opens.signature κs (q, (q′, tt)) (s, (t, tt)) at) ∷ []) ∵ enter ! C Λ code.function (vs ∷ vt ∷ []) _ $
-        alloc1 ! (λ l₀. alloc1 ! (λ l₁. alloc1 ! (λ l₂. alloc0 ! $ params1 ! $ pass1 ! (init ! 2 refl ts) $ pass1 ! (init ! 0 refl tt′) $ pass0 ! $
-        assigns ! (agg ! (and-then ! (load ! (from ! (stop !)) (look ! 2 refl)) (and-then ! (load ! (from ! (stop !)) (look ! 0 refl)) (no-more !)))) (from ! (stop !)) (init ! 4 refl (tt, (ts .1, (tt′ .1, tt)))) $
+        alloc1 ! (λ l₀. alloc1 ! (λ l₁. alloc1 ! (λ l₂. alloc0 ! $ params1 ! $ pass1 ! (init ! 2 refl typed-s) $ pass1 ! (init ! 0 refl typed-t) $ pass0 ! $
+        assigns ! (agg ! (and-then ! (load ! (from ! (stop !)) (look ! 2 refl)) (and-then ! (load ! (from ! (stop !)) (look ! 0 refl)) (no-more !)))) (from ! (stop !)) (init ! 4 refl (tt, (typed-s .1, (typed-t .1, tt)))) $
         returns ! (look ! 4 refl) $ forget ! 0 refl $ forget ! 2 refl $ forget ! 4 refl $ move ! (4 ∷ 5 ∷ []) $ free1 ! $ move ! (2 ∷ 3 ∷ []) $ free1 ! $ free1 ! $ free0 ! $ by ! exits)))
 
 module _ {M : Type 1} (𝓤 : URA M) (H : Heap 𝓤) (A : Atoms 𝓤) (W : Given 𝓤 H A) (mem : Memory → SProp 𝓤) (run : Routine → Fun 𝓤) where
