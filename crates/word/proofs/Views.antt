@@ -1,6 +1,6 @@
 -- The laws of symbols in cells, and of the words that some cells hold. Assumes nothing.
 use mathlib.Core.Path.{_≡_, refl, sym, ap, _∙_}
-use mathlib.Core.List.{List, [], _∷_, _++_, map, map-append}
+use mathlib.Core.List.{List, [], _∷_, _++_, map-append}
 use Prim.Native.Nat.{ℕ, zero, suc, _+_, _%_, _^_, _≤_, _<_}
 use native.Mathlib.Omega.{arith}
 use native.Mathlib.Numerals.{add-one}
@@ -12,10 +12,6 @@ use Rattle.rule.specs.Sums.{Under, AllUnder}
 use Rattle.word.specs.Layout.{symbolIn, symbolsAt, endAt, line, lines, bySymbols, corpus, entryAt, inUse}
 
 -- SYMBOLS
-
-pub symbol-lt : (v : ℕ) → symbolIn v < 2 ^ 32
-unfolding symbolIn
-symbol-lt v = omega arith
 
 pub symbol-alone : (v : ℕ) → v < 2 ^ 32 → symbolIn v ≡ v
 unfolding symbolIn
@@ -150,18 +146,7 @@ unfolding inUse
 inUse-append [] fs = omega arith
 inUse-append (e ∷ es) fs = let h = inUse-append es fs in omega arith
 
--- every symbol of a set is below 2 ^ 32
-below-symbols : (l : List ℕ) → Under (2 ^ 32) (map symbolIn l)
-unfolding Under
-below-symbols [] = tt
-below-symbols (s ∷ l) = (symbol-lt s, below-symbols l)
-
-pub corpus-below : (cs : List ℕ) (starts n : ℕ) → AllUnder (2 ^ 32) (corpus cs starts n)
-unfolding corpus lines AllUnder
-corpus-below cs starts zero = tt
-corpus-below cs starts (suc n) = (below-symbols (part (nth cs starts + 2) (nth cs (nth cs starts + 1)) cs), corpus-below cs (starts + 1) n)
-
--- and of each word, below what they all are
+-- what the symbols of all words are below, those of each are
 pub under-at : (m : ℕ) (es : List Entry) (k : ℕ) → AllUnder m es → k < length es → Under m (entryAt es k .symbols)
 unfolding AllUnder entryAt
 under-at m [] k b h = absurd (omega arith)
