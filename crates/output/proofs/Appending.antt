@@ -1,24 +1,24 @@
 -- A piece and a merge behind those that are there. Assumes nothing.
 use mathlib.Core.Path.{_≡_, refl, sym, ap, _∙_}
 use mathlib.Core.Bool.{true, false}
-use mathlib.Core.List.{List, [], _∷_, _++_}
+use mathlib.Core.List.{List, _++_}
 use mathlib.Core.Logic.{inl, inr}
 use Prim.Native.Nat.{ℕ, _+_, _*_, _-_, _/_, _^_, _<_, _≤_}
 use native.Mathlib.Omega.{arith}
-use lib.ListN.{length, take, drop, length-append}
+use lib.ListN.{length, take, drop}
 use Rattle.runs.specs.Parts.{part, laid}
-use Rattle.runs.proofs.Parts.{length-part, part-lent, length-laid, laid-laid}
+use Rattle.runs.proofs.Parts.{length-part, part-lent, laid-laid}
 use Rattle.numbers.specs.Little.{store, spell}
 use Rattle.numbers.proofs.Little.{length-spell}
 use Rattle.rule.specs.Layout.{pieceStart, pieceAt}
-use Rattle.rule.specs.Spelling.{stripPrefix, joined}
+use Rattle.rule.specs.Spelling.{joined}
 use Rattle.spelling.specs.Lengths.{joinedLength}
 use Rattle.spelling.specs.Writing.{Written}
 use Rattle.spelling.proofs.Lengths.{joined-long}
-use Rattle.intern.specs.Pieces.{pieces, Held}
+use Rattle.intern.specs.Pieces.{Held}
 use Rattle.intern.specs.Intern.{Lacks}
-use Rattle.intern.proofs.Rooms.{piece-part, piece-lent, piece-inside, pieces-more, pieces-same, more-bytes, more-ends, more-old, more-new, more-held}
-use Rattle.output.specs.Output.{More, PieceDone, MergeDone}
+use Rattle.intern.proofs.Rooms.{piece-part, piece-inside, pieces-more, pieces-same, more-bytes, more-ends, more-old, more-new, more-held}
+use Rattle.output.specs.Output.{PieceDone, MergeDone}
 use Rattle.output.specs.declared.Appended.the-variants as is
 
 -- A PIECE OF THE ROOMS, between its two ends

@@ -3,7 +3,7 @@ use borrow.Author.Needs.{needs}
 use native.Mathlib.Omega.{arith}
 use mathlib.Core.Path.{_≡_}
 use mathlib.Core.Bool.{true}
-use Prim.Native.Nat.{_+_, _-_, _/_, _^_, _≤_, _<_}
+use Prim.Native.Nat.{_-_, _/_, _^_, _≤_, _<_}
 use lib.ListN.{length}
 use Rattle.numbers.specs.Little.{numbers}
 use Rattle.rule.specs.Shapes.{riseTo}
