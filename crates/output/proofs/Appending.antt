@@ -23,11 +23,17 @@ use Rattle.output.specs.declared.Appended.the-variants as is
 
 -- A PIECE OF THE ROOMS, between its two ends
 module _ (n u k : ℕ) (xs ys : List ℕ) (l : Held n u xs ys) (h : k < n) (from to : ℕ) (e : from ≡ pieceStart ys k) (f : to ≡ pieceStart ys (k + 1)) where
-  pub between : (from ≤ to) × (to ≤ length xs) × (to ≤ u) × (to ≤ 4294967295)
+  between : (from ≤ to) × (to ≤ length xs) × (to ≤ u) × (to ≤ 4294967295)
   between =
       let i = piece-inside n u k from to xs ys l h e f in
       let m = l .low (k + 1) (omega arith) in
       (i .0, i .1, omega (arith, m), omega (arith, m, l .small))
+
+  pub rises : from ≤ to
+  rises = between .0
+
+  pub ends-inside : to ≤ length xs
+  ends-inside = between .1
 
   pub piece-is : part from (to - from) xs ≡ pieceAt xs ys k
   piece-is = rw (e, f) (sym (piece-part xs ys k))
@@ -65,7 +71,7 @@ module _ (n u left right : ℕ) (prefix xs ys : List ℕ) (l : Held n u xs ys) (
       behind : v ≡ u + length (joined prefix (pieceAt xs ys left) (pieceAt xs ys right))
       behind = omega (arith, w .behind, measured)
 
-      pub end-fits : v ≤ 4294967295
+      pub end-fits : v < 2 ^ 32
       end-fits = omega (arith, behind, q, l .small)
 
       pub piece-done : (ws : List ℕ) → n < length ys / 4 → ws ≡ store 4 ys (n * 4) v
