@@ -40,7 +40,7 @@ taken-put-first base cs v h = nth-put cs base v h
 
 -- A FIELD
 
--- of a record that was taken, and of one that was not
+-- of a record that was taken, and of one that was not, which has none above 0
 pub field-of : (base : ℕ) (cs : List ℕ) (r f : ℕ) → r < taken base cs → field base cs r f ≡ nth cs (base + 3 + r * 8 + f)
 unfolding field taken
 field-of base cs r f h = rw (lt-ltb r (nth cs base) h)
@@ -48,6 +48,9 @@ field-of base cs r f h = rw (lt-ltb r (nth cs base) h)
 pub field-none : (base : ℕ) (cs : List ℕ) (r f : ℕ) → taken base cs ≤ r → field base cs r f ≡ 0
 unfolding field taken
 field-none base cs r f h = rw (le-ltb r (nth cs base) h)
+
+pub field-low : (base : ℕ) (cs : List ℕ) (r f : ℕ) → 0 < field base cs r f → r < taken base cs
+field-low base cs r f h = below-or-not r (taken base cs) (λ l. l) (λ l. absurd (omega (arith, field-none base cs r f l)))
 
 pub field-is : (base r f x : ℕ) (cs : List ℕ) → r < taken base cs → x ≡ nth cs (base + 3 + r * 8 + f) → x ≡ field base cs r f
 field-is base r f x cs h e = e ∙ sym (field-of base cs r f h)
@@ -98,8 +101,7 @@ chain-same base top up M cs ds t f (suc m) head h c =
 
 -- a live record was taken once
 pub live-low : (base n r : ℕ) (cs : List ℕ) → Live base n r cs → r < taken base cs
-live-low base n r cs l =
-    below-or-not r (taken base cs) (λ h. h) (λ h. absurd (omega (arith, l .live, field-none base cs r 0 h)))
+live-low base n r cs l = field-low base cs r 0 (l .live)
 
 -- and is in no free list
 not-free : (base n r s : ℕ) (cs : List ℕ) → Live base n r cs → s ≡ r → field base cs s 0 ≡ 0 → ⊥

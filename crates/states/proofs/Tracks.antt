@@ -1,5 +1,5 @@
 -- States that track some words go on to: when an occurrence is rewritten and reported, when marks change, when a merge is done or settled. Assumes nothing.
-use mathlib.Core.Path.{_≡_, refl, ap, _∙_}
+use mathlib.Core.Path.{_≡_, refl, sym, ap, _∙_}
 use mathlib.Core.List.{List, [], _∷_, _++_}
 use Prim.Native.Nat.{ℕ, _*_, _<_, _≤_}
 use native.Mathlib.Nat.{mul-le-mul-left, one-le-mul}
@@ -14,7 +14,7 @@ use Rattle.rule.proofs.Rewriting.{pair-miss}
 use Rattle.rule.proofs.Counts.{count-symbols}
 use Rattle.word.specs.Layout.{entryAt}
 use Rattle.merge.proofs.Changes.{change-this, change-other}
-use Rattle.states.specs.State.{State, blank, most, key, Among, Change}
+use Rattle.states.specs.State.{State, blank, most, key, leftOf, rightOf, OfPair, Among, Change}
 use Rattle.states.specs.Tracking.{Tracks, Reported, lastOf, withWord, Weighed, Settled}
 use Rattle.states.proofs.Keys.{key-pos, key-single}
 use Rattle.states.proofs.Hits.{length-with, count-with, count-share, hit-count, hit-lowered}
@@ -108,6 +108,10 @@ module _ {σ τ : ℕ → State} {e : ℕ} {es : List Entry} where
 
       held : (p q k : ℕ) → 1 ≤ countIn p q (entryAt es k .symbols) → k < length es
       held p q k l = below-or-not k (length es) (λ g. g) (λ g. absurd (omega (arith, past p q k g)))
+
+-- the count of a key that is a pair's
+pub tracked-exact : {σ : ℕ → State} {e : ℕ} {es : List Entry} → Tracks σ e es → (c : ℕ) → OfPair c → (c ≡ e → ⊥) → σ c .count ≡ count (leftOf c) (rightOf c) es
+tracked-exact {σ} t c p n = ap (λ (d : ℕ). σ d .count) (sym (p .is)) ∙ t .exact (leftOf c) (rightOf c) (p .left) (p .right) (λ z. n (sym (p .is) ∙ z))
 
 -- no count passes the symbols
 pub tracked-light : {σ : ℕ → State} {e : ℕ} {es : List Entry} → Tracks σ e es → (p q : ℕ) → (key p q ≡ e → ⊥) → p < most → q < most → σ (key p q) .count ≤ symbolsIn es
