@@ -40,7 +40,7 @@ taken-put-first base cs v h = nth-put cs base v h
 
 -- A FIELD
 
--- of a record that was taken, and of one that was not
+-- of a record that was taken, and of one that was not, which has none above 0
 pub field-of : (base : ℕ) (cs : List ℕ) (r f : ℕ) → r < taken base cs → field base cs r f ≡ nth cs (base + 3 + r * 8 + f)
 unfolding field taken
 field-of base cs r f h = rw (lt-ltb r (nth cs base) h)
@@ -48,6 +48,9 @@ field-of base cs r f h = rw (lt-ltb r (nth cs base) h)
 pub field-none : (base : ℕ) (cs : List ℕ) (r f : ℕ) → taken base cs ≤ r → field base cs r f ≡ 0
 unfolding field taken
 field-none base cs r f h = rw (le-ltb r (nth cs base) h)
+
+pub field-low : (base : ℕ) (cs : List ℕ) (r f : ℕ) → 0 < field base cs r f → r < taken base cs
+field-low base cs r f h = below-or-not r (taken base cs) (λ l. l) (λ l. absurd (omega (arith, field-none base cs r f l)))
 
 pub field-is : (base r f x : ℕ) (cs : List ℕ) → r < taken base cs → x ≡ nth cs (base + 3 + r * 8 + f) → x ≡ field base cs r f
 field-is base r f x cs h e = e ∙ sym (field-of base cs r f h)
@@ -98,14 +101,13 @@ chain-same base top up M cs ds t f (suc m) head h c =
 
 -- a live record was taken once
 pub live-low : (base n r : ℕ) (cs : List ℕ) → Live base n r cs → r < taken base cs
-live-low base n r cs l =
-    below-or-not r (taken base cs) (λ h. h) (λ h. absurd (omega (arith, l .live, field-none base cs r 0 h)))
+live-low base n r cs l = field-low base cs r 0 (l .live)
 
 -- and is in no free list
 not-free : (base n r s : ℕ) (cs : List ℕ) → Live base n r cs → s ≡ r → field base cs s 0 ≡ 0 → ⊥
 not-free base n r s cs l u z = let z′ : field base cs r 0 ≡ 0 = rw u at z in omega (arith, l .live, z′)
 
--- a put in a field of a live record
+-- a put in a field of a live record (fp-)
 module _ (base n r f v : ℕ) (cs ds : List ℕ) (p : CanPut base n r f cs) (d : ds ≡ put cs (base + 3 + r * 8 + f) v) where
   fp-head : (i : ℕ) → i < base + 3 → nth ds i ≡ nth cs i
   fp-head i h = ap (λ (l : List ℕ). nth l i) d ∙ nth-put-other cs (base + 3 + r * 8 + f) v i (omega arith)
@@ -182,7 +184,7 @@ free-within base n key h r l v cs es fs p eh er d₁ d₂ =
       few = omega arith;
     }
 
--- one never taken before
+-- one never taken before (cn-)
 module _ (base n key x : ℕ) (cs es ds : List ℕ) (p : CanNew base n key cs) (e : x ≡ nth cs base) (d₁ : es ≡ put cs base (x + 1)) (d : ds ≡ put es (base + 3 + x * 8 + 0) key) where
   cn-long₁ : length es ≡ length cs
   cn-long₁ = ap length d₁ ∙ length-put cs base (x + 1)
@@ -261,7 +263,7 @@ module _ (base n key x : ℕ) (cs es ds : List ℕ) (p : CanNew base n key cs) (
         even = omega (arith, cn-taken, cn-was, cn-free);
       }
 
--- the first of the free list
+-- the first of the free list (cf-)
 module _ (base n key h c r l : ℕ) (cs es fs ds : List ℕ) (p : CanFree base n key cs) (eh : h ≡ nth cs (base + 1)) (ec : c ≡ nth cs (base + 2)) (er : r ≡ h - 1)
     (el : l ≡ field base cs r 1) (d₁ : es ≡ put cs (base + 1) l) (d₂ : fs ≡ put es (base + 2) (c - 1)) (d : ds ≡ put fs (base + 3 + r * 8 + 0) key) where
   cf-long₁ : length es ≡ length cs
@@ -380,7 +382,7 @@ module _ (base n key x : ℕ) (cs : List ℕ) (p : CanClaim base n key cs) (e : 
 
 -- TO GIVE A RECORD BACK
 
--- a live record goes to the front of the free list: its fields 1 and 2 are what they are to be
+-- a live record goes to the front of the free list: its fields 1 and 2 are what they are to be (dr-)
 module _ (base n r c : ℕ) (cs es fs ds : List ℕ) (p : CanDrop base n r cs) (ec : c ≡ nth cs (base + 2))
     (d₁ : es ≡ put cs (base + 3 + r * 8 + 0) 0) (d₂ : fs ≡ put es (base + 1) (r + 1)) (d : ds ≡ put fs (base + 2) (c + 1)) where
   dr-long₁ : length es ≡ length cs

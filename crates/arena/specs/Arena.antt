@@ -26,10 +26,12 @@ pub record Node (base top : ℕ) (cs : List ℕ) (r m : ℕ) : Type 0 where
   pub idle : field base cs r 0 ≡ 0
   pub depth : field base cs r 2 ≡ m
 
+-- m records in the list from `head` on, a record's number + 1
 unfoldable pub Chain : ℕ → ℕ → List ℕ → ℕ → ℕ → Type 0
 Chain base top cs head zero = head ≡ 0
 Chain base top cs head (suc m) = (0 < head) × (Node base top cs (head - 1) (suc m)) × (Chain base top cs (field base cs (head - 1) 1) m)
 
+-- THE INVARIANT: the records lie in the room, and those given back are in the free list
 pub record Arena (base n : ℕ) (cs : List ℕ) : Type 0 where
   pub room : base + 3 + n * 8 ≤ length cs
   pub small : length cs < 2 ^ 61
@@ -48,11 +50,13 @@ pub record Only (base n r : ℕ) (was is : List ℕ) : Type 0 where
   pub others : (s g : ℕ) → g < 8 → (s ≡ r → ⊥) → field base is s g ≡ field base was s g
   pub kept : Kept base (base + 3 + n * 8) was is
 
+-- a record can be taken: not all were, whatever the free list has
 pub record CanClaim (base n key : ℕ) (cs : List ℕ) : Type 0 where
   pub ar : Arena base n cs
   pub pos : 0 < key
   pub space : taken base cs < n
 
+-- r, which was not live, has the key; it was free or never taken, and the head says so
 pub record Claimed (base n key r : ℕ) (was is : List ℕ) : Type 0 where
   pub live : Live base n r is
   pub only : Only base n r was is
@@ -61,6 +65,7 @@ pub record Claimed (base n key r : ℕ) (was is : List ℕ) : Type 0 where
   pub most : taken base is ≤ taken base was + 1
   pub even : taken base is + free base was ≡ taken base was + free base is + 1
 
+-- r is not live, and one more is free
 pub record Released (base n r : ℕ) (was is : List ℕ) : Type 0 where
   pub ok : Arena base n is
   pub only : Only base n r was is
@@ -68,12 +73,13 @@ pub record Released (base n r : ℕ) (was is : List ℕ) : Type 0 where
   pub same : taken base is ≡ taken base was
   pub freed : free base is ≡ free base was + 1
 
--- a live record with another field than the key put
+-- a live record, and another field than the key
 pub record CanPut (base n r f : ℕ) (cs : List ℕ) : Type 0 where
   pub at : Live base n r cs
   pub some : 0 < f
   pub few : f < 8
 
+-- that field is v, and no other has changed
 pub record FieldPut (base n r f v : ℕ) (was is : List ℕ) : Type 0 where
   pub live : Live base n r is
   pub only : Only base n r was is
@@ -92,7 +98,7 @@ pub record Alloc (base n key r : ℕ) (was is : List ℕ) : Type 0 where
   pub most : taken base is ≤ taken base was + 1
   pub even : taken base is + free base was ≡ taken base was + free base is + 1
 
--- what the parts of a claim and a release ask
+-- WHAT THE PARTS of a claim and a release ask and do
 pub record CanNew (base n key : ℕ) (cs : List ℕ) : Type 0 where
   pub ar : Arena base n cs
   pub pos : 0 < key
@@ -117,6 +123,7 @@ pub record CanDrop (base n r : ℕ) (cs : List ℕ) : Type 0 where
   pub depth : field base cs r 2 ≡ free base cs + 1
   pub more : free base cs < taken base cs
 
+-- r has its key, and 0 in the fields behind it
 pub record Blank (base n r : ℕ) (was is : List ℕ) : Type 0 where
   pub live : Live base n r is
   pub only : Only base n r was is
@@ -124,6 +131,7 @@ pub record Blank (base n r : ℕ) (was is : List ℕ) : Type 0 where
   pub blank : (g : ℕ) → 0 < g → g < 4 → field base is r g ≡ 0
   pub head : (i : ℕ) → i < base + 3 → nth is i ≡ nth was i
 
+-- v is put in a field, whatever it means
 pub record Stored (base r f v : ℕ) (was is : List ℕ) : Type 0 where
   pub is-put : is ≡ put was (base + 3 + r * 8 + f) v
   pub long : length is ≡ length was

@@ -1,12 +1,10 @@
 -- The laws of counting a pair. Assumes nothing.
-use mathlib.Core.Path.{_≡_, refl, sym, ap, _∙_}
+use mathlib.Core.Path.{_≡_, refl, sym, ap}
 use mathlib.Core.List.{List, [], _∷_}
 use Prim.Native.Nat.{ℕ, _+_, _-_, _*_, _^_, _≤_, _<_}
 use native.Mathlib.Omega.{arith}
 use native.Mathlib.Nat.{mul-le-mul-left}
-use native.Mathlib.Numerals.{add-one}
 use lib.ListN.{length, drop, drop-of-length-le}
-use lib.Seq.{drop-cons}
 use Rattle.runs.specs.Parts.{nth}
 use Rattle.rule.specs.Rewriting.{bit, isPair, link, countIn}
 use Rattle.rule.specs.Seeding.{Entry}
@@ -18,7 +16,7 @@ use Rattle.word.specs.Layout.{symbolIn, symbolsAt, corpus, entryAt}
 use Rattle.word.specs.Pushing.{Found}
 use Rattle.word.specs.declared.WordSet.{WordSet}
 use Rattle.word.specs.declared.Span.{Span}
-use Rattle.word.proofs.Views.{symbols-length, symbols-cons, corpus-length}
+use Rattle.word.proofs.Views.{symbols-length, symbols-two, symbols-next, corpus-length, drop-entry}
 use Rattle.counting.specs.Counting.{Tested, Counted}
 
 -- A PAIR, as a number
@@ -44,11 +42,7 @@ module _ (p q at n : ℕ) (cs : List ℕ) where
   count-two : 1 < n → at + n ≤ length cs
       → countIn p q (symbolsAt at n cs) ≡ bit (isPair p q (symbolIn (nth cs at)) (symbolIn (nth cs (at + 1)))) + countIn p q (symbolsAt (at + 1) (n - 1) cs)
   unfolding countIn link
-  count-two h l =
-      let e : n ≡ n - 2 + 1 + 1 = omega arith in
-      let f : n - 1 ≡ n - 2 + 1 = omega arith in
-      ap (λ (m : ℕ). countIn p q (symbolsAt at m cs)) e
-      ∙ rw (f, symbols-cons at (n - 2 + 1) cs (omega arith), symbols-cons (at + 1) (n - 2) cs (omega arith))
+  count-two h l = rw (symbols-two at n cs h l, symbols-next at n cs h l)
 
   count-few : n ≤ 1 → at + n ≤ length cs → countIn p q (symbolsAt at n cs) ≡ 0
   count-few h l = count-short p q (symbolsAt at n cs) (omega (arith, symbols-length at n cs l))
@@ -68,10 +62,6 @@ module _ (p q start n : ℕ) (cs : List ℕ) where
     hits-end h = omega (arith, count-few p q at left cs h room)
 
 -- THE WORDS OF A SET
-
-pub drop-entry : (es : List Entry) (k : ℕ) → k < length es → drop k es ≡ entryAt es k ∷ drop (k + 1) es
-unfolding entryAt
-drop-entry es k h = rw (add-one k) (drop-cons es k (record { frequency = 0; symbols = [] }) h)
 
 module _ (es : List Entry) (k : ℕ) (h : k < length es) where
   count-rest : (p q : ℕ) → count p q (drop k es) ≡ entryAt es k .frequency * countIn p q (entryAt es k .symbols) + count p q (drop (k + 1) es)

@@ -1,34 +1,28 @@
 -- A word made an entry of the set, and all words one behind the other. Assumes nothing.
 use mathlib.Core.Path.{_≡_, refl, sym, ap, _∙_}
-use mathlib.Core.Bool.{Bool, true}
 use mathlib.Core.List.{List, [], _∷_, _++_, append-nil, append-assoc, map, flatMap, foldl}
-use mathlib.Core.Logic.{inl, inr}
-use Prim.Native.Nat.{ℕ, zero, suc, _+_, _*_, _-_, _/_, _<_, _≤_}
+use mathlib.Core.Logic.{inl}
+use Prim.Native.Nat.{ℕ, _+_, _*_, _<_, _≤_}
 use native.Mathlib.Omega.{arith}
 use lib.ListN.{length}
-use Rattle.runs.specs.Parts.{nth, part, Kept}
+use Rattle.runs.specs.Parts.{nth}
 use Rattle.numbers.specs.Little.{numbers}
 use Rattle.numbers.specs.Cells.{cells}
-use Rattle.rule.specs.Shapes.{parts, partsBy}
-use Rattle.rule.specs.Table.{units, unitsOf, total}
+use Rattle.rule.specs.Table.{total}
 use Rattle.rule.specs.Spelling.{decorate}
 use Rattle.rule.specs.Seeding.{Entry, intern, numberOf, keep, keptWith}
 use Rattle.rule.proofs.Spelling.{length-decorate}
 use Rattle.rule.proofs.Seeding.{All, Has, interns-stay, interns-have}
-use Rattle.vocab.specs.Places.{numbersFrom}
-use Rattle.vocab.proofs.Places.{numbers-start, numbers-step, number-load, parts-start, parts-step, parts-end}
 use Rattle.intern.specs.Pieces.{pieces}
-use Rattle.intern.specs.Intern.{Pieces}
-use Rattle.intern.specs.Many.{Ran, Exceed}
-use Rattle.intern.proofs.Many.{ran-start, ran-cells, ran-slots, ran-then, ran-exceeds}
+use Rattle.intern.specs.Many.{Ran}
+use Rattle.intern.proofs.Many.{ran-cells, ran-slots, ran-then, ran-exceeds}
 use Rattle.intern.proofs.Lists.{interns-append}
 use Rattle.intern.proofs.Elsewhere.{pieces-elsewhere, pieces-kept}
 use Rattle.alphabet.specs.Seeds.{CanSeed}
 use Rattle.word.specs.Layout.{symbolsAt, corpus, Words}
-use Rattle.word.specs.Pushing.{Opened, Pushed, Takes}
+use Rattle.word.specs.Pushing.{Opened, Pushed}
 use Rattle.word.specs.declared.WordSet.{WordSet}
-use Rattle.word.proofs.Views.{corpus-none}
-use Rattle.encoding.specs.Encoding.{allDecorated, decoratedUnits, after, WordDone, EntryDone, Fits, WordsDone}
+use Rattle.encoding.specs.Encoding.{after, WordDone, EntryDone, WordsDone}
 use Rattle.encoding.specs.declared.Worded.{Worded}
 use Rattle.encoding.specs.declared.Worded.the-variants as worded
 use Rattle.encoding.specs.declared.Encoded.{Encoded}

@@ -1,28 +1,28 @@
 -- A word's units, interned one by one while their numbers become the symbols of the open word. Assumes nothing.
 use mathlib.Core.Path.{_≡_, refl, sym, ap, _∙_}
 use mathlib.Core.Bool.{Bool, true, false, cond, not}
-use mathlib.Core.List.{List, [], _∷_, _++_, append-nil, map, foldl}
+use mathlib.Core.List.{List, [], _∷_, _++_, append-nil, map}
 use mathlib.Core.Logic.{inl, inr}
-use Prim.Native.Nat.{ℕ, zero, suc, _+_, _*_, _-_, _<_, _≤_}
+use Prim.Native.Nat.{ℕ, _+_, _-_, _<_, _≤_}
 use native.Mathlib.Omega.{arith}
-use lib.Dec.{eqb, eqb·zero-suc}
+use lib.Dec.{eqb}
 use lib.ListN.{length, take, drop}
 use lib.Seq.{append-snoc, take-all}
-use borrow.Author.Tests.{eq-eqb, ne-eqb, eqb-true, eqb-false}
+use borrow.Author.Tests.{eq-eqb, ne-eqb}
 use Rattle.runs.specs.Parts.{nth, part, Kept}
 use Rattle.runs.proofs.Parts.{same-or-not}
 use Rattle.numbers.specs.Cells.{cells}
 use Rattle.rfc3629.specs.Cut.{unitsBy}
 use Rattle.rule.specs.Spelling.{decorate}
-use Rattle.rule.specs.Seeding.{Entry, intern, numberOf}
+use Rattle.rule.specs.Seeding.{intern, numberOf}
 use Rattle.rule.proofs.Seeding.{has-intern, interns-stay}
 use Rattle.text.specs.Units.{Next}
 use Rattle.text.proofs.Steps.{last-units, next-units, units-some}
 use Rattle.spelling.specs.Units.{dressed, dressedFrom}
 use Rattle.spelling.proofs.Units.{dressed-of, dressed-none, dressed-next, decorate-dressed}
 use Rattle.intern.specs.Pieces.{pieces}
-use Rattle.intern.specs.Intern.{Pieces, CanIntern, Answer, Gave}
-use Rattle.intern.specs.Many.{Ran, Exceed}
+use Rattle.intern.specs.Intern.{CanIntern, Answer, Gave}
+use Rattle.intern.specs.Many.{Ran}
 use Rattle.intern.specs.declared.Interned.{Interned}
 use Rattle.intern.specs.declared.Interned.the-variants as found
 use Rattle.intern.proofs.Rooms.{kept-cells}
@@ -36,7 +36,7 @@ use Rattle.word.specs.Pushing.{Added}
 use Rattle.word.specs.declared.WordSet.{WordSet}
 use Rattle.word.proofs.Sets.{words-kept, corpus-kept, symbols-kept}
 use Rattle.word.proofs.Views.{symbols-none}
-use Rattle.encoding.specs.Encoding.{after, Open, UnitDone, WordDone}
+use Rattle.encoding.specs.Encoding.{after, UnitDone, WordDone}
 use Rattle.encoding.specs.declared.Worded.the-variants as worded
 
 -- ONE UNIT

@@ -7,17 +7,16 @@ use lib.ListN.{length}
 use Rattle.runs.specs.Parts.{nth, part}
 use Rattle.numbers.specs.Little.{load, numbers}
 use Rattle.numbers.specs.Cells.{cells}
-use Rattle.rule.specs.Shapes.{parts, partsBy}
+use Rattle.rule.specs.Shapes.{parts}
 use Rattle.rule.specs.Table.{units, unitsOf, total}
 use Rattle.rule.specs.Spelling.{decorate}
 use Rattle.rule.specs.Seeding.{Entry, keptWith}
 use Rattle.rule.proofs.Spelling.{length-decorate}
 use Rattle.vocab.specs.Places.{numbersFrom}
 use Rattle.vocab.proofs.Places.{numbers-start, numbers-step, number-load, parts-start, parts-step, parts-end}
-use Rattle.intern.specs.Many.{Ran}
 use Rattle.intern.proofs.Many.{ran-start}
 use Rattle.alphabet.specs.Seeds.{CanSeed}
-use Rattle.word.specs.Layout.{corpus, Words}
+use Rattle.word.specs.Layout.{corpus}
 use Rattle.word.specs.declared.WordSet.{WordSet}
 use Rattle.word.proofs.Views.{corpus-none}
 use Rattle.encoding.specs.Encoding.{allDecorated, decoratedUnits, after, EntryDone, Fits, WordsDone}
@@ -56,9 +55,6 @@ decorated-total seeding p s ws es = lengths-same p s (unitsOf seeding ws es)
 -- THE START
 module _ (set : WordSet) (base cap c u seeding : ℕ) (p s ws es fs rs xs ys : List ℕ) (can : CanSeed base cap c u (decoratedUnits seeding p s ws es) (cells rs) xs ys)
     (fits : Fits set base seeding ws es (cells rs)) where
-  all : List (List (List ℕ))
-  all = allDecorated seeding p s ws es
-
   begin : Entering set base cap c u (numbers 8 fs) (numbers 8 fs) (allDecorated seeding p s ws es) (allDecorated seeding p s ws es) set xs ys rs xs ys c u
   unfolding decoratedUnits
   begin = record {

@@ -12,7 +12,7 @@ ghost use Rattle.numbers.specs.Little.{numbers};
 ghost use Rattle.numbers.specs.Cells.{cells};
 ghost use Rattle.rfc3629.specs.Cut.{unitsBy};
 ghost use Rattle.rule.specs.Shapes.{shaped};
-ghost use Rattle.rule.specs.Table.{units, unitsOf};
+ghost use Rattle.rule.specs.Table.{units};
 ghost use Rattle.rule.specs.Spelling.{decorate};
 ghost use Rattle.intern.specs.Intern.{CanIntern};
 ghost use Rattle.alphabet.specs.Seeds.{CanSeed};

@@ -1,4 +1,6 @@
 // Rewriting a pair in the words of a set, in place.
+//
+// Training reports each step besides, and takes of this the steps alone, `look` and `left_by`.
 ghost use mathlib.Core.Path.{_≡_};
 ghost use Prim.Native.Nat.{_+_, _<_, _≤_};
 ghost use lib.ListN.{length};

@@ -1,33 +1,39 @@
 -- A piece and a merge behind those that are there. Assumes nothing.
 use mathlib.Core.Path.{_≡_, refl, sym, ap, _∙_}
 use mathlib.Core.Bool.{true, false}
-use mathlib.Core.List.{List, [], _∷_, _++_}
+use mathlib.Core.List.{List, _++_}
 use mathlib.Core.Logic.{inl, inr}
 use Prim.Native.Nat.{ℕ, _+_, _*_, _-_, _/_, _^_, _<_, _≤_}
 use native.Mathlib.Omega.{arith}
-use lib.ListN.{length, take, drop, length-append}
+use lib.ListN.{length, take, drop}
 use Rattle.runs.specs.Parts.{part, laid}
-use Rattle.runs.proofs.Parts.{length-part, part-lent, length-laid, laid-laid}
+use Rattle.runs.proofs.Parts.{length-part, part-lent, laid-laid}
 use Rattle.numbers.specs.Little.{store, spell}
 use Rattle.numbers.proofs.Little.{length-spell}
 use Rattle.rule.specs.Layout.{pieceStart, pieceAt}
-use Rattle.rule.specs.Spelling.{stripPrefix, joined}
+use Rattle.rule.specs.Spelling.{joined}
 use Rattle.spelling.specs.Lengths.{joinedLength}
 use Rattle.spelling.specs.Writing.{Written}
 use Rattle.spelling.proofs.Lengths.{joined-long}
-use Rattle.intern.specs.Pieces.{pieces, Held}
+use Rattle.intern.specs.Pieces.{Held}
 use Rattle.intern.specs.Intern.{Lacks}
-use Rattle.intern.proofs.Rooms.{piece-part, piece-lent, piece-inside, pieces-more, pieces-same, more-bytes, more-ends, more-old, more-new, more-held}
-use Rattle.output.specs.Output.{More, PieceDone, MergeDone}
+use Rattle.intern.proofs.Rooms.{piece-part, piece-inside, pieces-more, pieces-same, more-bytes, more-ends, more-old, more-new, more-held}
+use Rattle.output.specs.Output.{PieceDone, MergeDone}
 use Rattle.output.specs.declared.Appended.the-variants as is
 
 -- A PIECE OF THE ROOMS, between its two ends
 module _ (n u k : ℕ) (xs ys : List ℕ) (l : Held n u xs ys) (h : k < n) (from to : ℕ) (e : from ≡ pieceStart ys k) (f : to ≡ pieceStart ys (k + 1)) where
-  pub between : (from ≤ to) × (to ≤ length xs) × (to ≤ u) × (to ≤ 4294967295)
+  between : (from ≤ to) × (to ≤ length xs) × (to ≤ u) × (to ≤ 4294967295)
   between =
       let i = piece-inside n u k from to xs ys l h e f in
       let m = l .low (k + 1) (omega arith) in
       (i .0, i .1, omega (arith, m), omega (arith, m, l .small))
+
+  pub rises : from ≤ to
+  rises = between .0
+
+  pub ends-inside : to ≤ length xs
+  ends-inside = between .1
 
   pub piece-is : part from (to - from) xs ≡ pieceAt xs ys k
   piece-is = rw (e, f) (sym (piece-part xs ys k))
@@ -65,7 +71,7 @@ module _ (n u left right : ℕ) (prefix xs ys : List ℕ) (l : Held n u xs ys) (
       behind : v ≡ u + length (joined prefix (pieceAt xs ys left) (pieceAt xs ys right))
       behind = omega (arith, w .behind, measured)
 
-      pub end-fits : v ≤ 4294967295
+      pub end-fits : v < 2 ^ 32
       end-fits = omega (arith, behind, q, l .small)
 
       pub piece-done : (ws : List ℕ) → n < length ys / 4 → ws ≡ store 4 ys (n * 4) v

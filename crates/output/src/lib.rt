@@ -2,7 +2,7 @@
 //
 // Each is written behind those that are there, and nothing is written where one has no place.
 ghost use mathlib.Core.Path.{_≡_};
-ghost use Prim.Native.Nat.{_+_, _*_, _<_, _≤_};
+ghost use Prim.Native.Nat.{_+_, _*_, _<_};
 ghost use lib.ListN.{length};
 ghost use Rattle.rule.specs.Layout.{pieceAt};
 ghost use Rattle.rule.specs.Spelling.{joined};

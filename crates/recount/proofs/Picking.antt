@@ -1,6 +1,6 @@
 -- The laws of the better of two, and of a pair that is known. Assumes nothing.
 use mathlib.Core.Path.{_≡_, refl}
-use mathlib.Core.Bool.{Bool, true, false, cond, _&&_}
+use mathlib.Core.Bool.{Bool, true, false, cond, _&&_, false≢true}
 use mathlib.Core.List.{[], _∷_}
 use Prim.Native.Nat.{ℕ, _≤_, _<_}
 use native.Mathlib.Omega.{arith}
@@ -80,6 +80,6 @@ module _ (c : Choice) (s t : ℕ) where
     where
       go : (x y z : Bool) → ltb 0 (c .times) ≡ x → eqb (c .left) s ≡ y → eqb (c .right) t ≡ z → (x && (y && z)) ≡ true → Same
       go true true true ex ey ez k = record { some = ltb-true 0 (c .times) ex; left = eqb-true (c .left) s ey; right = eqb-true (c .right) t ez }
-      go true true false ex ey ez k = let z : _≡_ {A = ℕ} 0 1 = cc in absurd (omega arith)
-      go true false z ex ey ez k = let z : _≡_ {A = ℕ} 0 1 = cc in absurd (omega arith)
-      go false y z ex ey ez k = let z : _≡_ {A = ℕ} 0 1 = cc in absurd (omega arith)
+      go true true false ex ey ez k = absurd (false≢true k)
+      go true false z ex ey ez k = absurd (false≢true k)
+      go false y z ex ey ez k = absurd (false≢true k)

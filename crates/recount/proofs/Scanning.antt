@@ -2,7 +2,7 @@
 use mathlib.Core.Path.{_≡_, refl, sym, ap, _∙_}
 use mathlib.Core.Bool.{Bool, true, false, cond, not}
 use mathlib.Core.List.{List, [], _∷_, _++_}
-use Prim.Native.Nat.{ℕ, zero, suc, _+_, _-_, _≤_, _<_}
+use Prim.Native.Nat.{ℕ, _+_, _-_, _≤_, _<_}
 use native.Mathlib.Omega.{arith}
 use lib.ListN.{length, drop, drop-of-length-le}
 use borrow.Author.Tests.{not-true, not-false}
@@ -16,8 +16,7 @@ use Rattle.word.specs.Layout.{symbolIn, symbolsAt, corpus, entryAt}
 use Rattle.word.specs.Pushing.{Found}
 use Rattle.word.specs.declared.WordSet.{WordSet}
 use Rattle.word.specs.declared.Span.{Span}
-use Rattle.word.proofs.Views.{symbols-length, symbols-cons, corpus-length, under-at}
-use Rattle.counting.proofs.Counts.{drop-entry}
+use Rattle.word.proofs.Views.{symbols-length, symbols-two, symbols-next, corpus-length, drop-entry, under-at}
 use Rattle.recount.specs.Recount.{limits, ruled, pick, known, Weighed, Tried, Chosen}
 use Rattle.recount.specs.declared.Choice.{Choice}
 use Rattle.recount.proofs.Picking.{pick-best, Same, known-same}
@@ -29,7 +28,7 @@ unfolding best
 best-append c [] es = refl
 best-append c (d ∷ ds) es = best-append (cond (better d c) d c) ds es
 
--- no choice is better than itself
+-- and of a choice and itself
 best-itself : (c : rule.Choice) → best c (c ∷ []) ≡ c
 unfolding best
 best-itself c = go (better c c)
@@ -110,20 +109,6 @@ unfolding candidatesIn
 none-in t ps es [] h = refl
 none-in t ps es (a ∷ []) h = refl
 none-in t ps es (a ∷ b ∷ l) h = absurd (omega arith)
-
--- two symbols of some cells, and the rest
-symbols-two : (at n : ℕ) (cs : List ℕ) → 1 < n → at + n ≤ length cs
-    → symbolsAt at n cs ≡ symbolIn (nth cs at) ∷ symbolIn (nth cs (at + 1)) ∷ symbolsAt (at + 1 + 1) (n - 2) cs
-symbols-two at n cs h l =
-    let e : n ≡ n - 2 + 1 + 1 = omega arith in
-    ap (λ (m : ℕ). symbolsAt at m cs) e
-    ∙ rw (symbols-cons at (n - 2 + 1) cs (omega arith), symbols-cons (at + 1) (n - 2) cs (omega arith))
-
-symbols-next : (at n : ℕ) (cs : List ℕ) → 1 < n → at + n ≤ length cs
-    → symbolsAt (at + 1) (n - 1) cs ≡ symbolIn (nth cs (at + 1)) ∷ symbolsAt (at + 1 + 1) (n - 2) cs
-symbols-next at n cs h l =
-    let e : n - 1 ≡ n - 2 + 1 = omega arith in
-    ap (λ (m : ℕ). symbolsAt (at + 1) m cs) e ∙ symbols-cons (at + 1) (n - 2) cs (omega arith)
 
 -- every symbol is the number of a piece
 module _ (m at n : ℕ) (cs : List ℕ) (b : Under m (symbolsAt at n cs)) (h : 1 < n) (l : at + n ≤ length cs) where

@@ -1,4 +1,6 @@
 // The next merge by a recount: every adjacent position of every word, each pair's count made afresh.
+//
+// Training chooses by a queue, and takes of this the length test alone.
 ghost use mathlib.Core.Path.{_≡_};
 ghost use mathlib.Core.List.{[], _∷_};
 ghost use Prim.Native.Nat.{_<_};

@@ -1,56 +1,49 @@
 -- Seeding, stage by stage. Assumes nothing.
-use mathlib.Core.Path.{_≡_, refl, sym, ap, _∙_}
-use mathlib.Core.Bool.{Bool, true, false, cond, false≢true}
-use mathlib.Core.List.{List, [], _∷_, _++_, append-nil, map, flatMap, foldl}
-use mathlib.Core.Logic.{_⊎_, inl, inr}
-use Prim.Native.Nat.{ℕ, zero, suc, _+_, _*_, _-_, _/_, _^_, _<_, _≤_}
+use mathlib.Core.Path.{_≡_, sym, ap, _∙_}
+use mathlib.Core.Bool.{false≢true}
+use mathlib.Core.List.{List, [], _++_, append-nil, flatMap, foldl}
+use Prim.Native.Nat.{ℕ, _+_, _*_, _^_, _<_, _≤_}
 use native.Mathlib.Omega.{arith}
-use lib.Dec.{eqb}
-use lib.ListN.{length, length-append}
+use lib.ListN.{length}
 use borrow.Author.Tests.{eq-eqb, ne-eqb}
-use Rattle.runs.specs.Parts.{nth, laid, zeros, Bytes, Kept}
-use Rattle.runs.proofs.Parts.{length-zeros, length-laid, nth-laid, nth-zeros}
-use Rattle.runs.proofs.Frames.{kept-none, kept-then, kept-wide, kept-laid}
-use Rattle.numbers.specs.Little.{numbers}
+use Rattle.runs.specs.Parts.{zeros, Bytes}
 use Rattle.numbers.specs.Cells.{cells, Laid}
 use Rattle.numbers.proofs.Cells.{cells-small}
-use Rattle.rule.specs.Shapes.{partsBy, shaped}
-use Rattle.rule.specs.Table.{Task, A, U, alphabet, frequencies, chars, unitsOf, wordUnits, total, roomFor}
-use Rattle.rule.specs.Seeding.{decorated, intern, byteValues, distinct, firstSeeds, seeds, keptWith, kept}
-use Rattle.rule.specs.Layout.{pieceBytes}
+use Rattle.rule.specs.Shapes.{partsBy}
+use Rattle.rule.specs.Table.{alphabet, unitsOf, wordUnits}
+use Rattle.rule.specs.Seeding.{intern, byteValues, distinct, firstSeeds}
 use Rattle.rule.proofs.Spelling.{length-byteValues}
-use Rattle.rule.proofs.Order.{In, Apart, rising-apart, distinct-rises, distinct-in}
+use Rattle.rule.proofs.Order.{rising-apart, distinct-rises, distinct-in}
 use Rattle.rule.proofs.Names.{apart-within, units-apart}
-use Rattle.rule.proofs.Few.{first-apart, first-few, first-units, seeds-forms, seeds-small, alphabet-count, interns-fresh}
-use Rattle.rule.proofs.Lengths.{length-flat}
 use Rattle.index.proofs.Clients.{index-cleared}
-use Rattle.intern.specs.Pieces.{pieces, Held}
-use Rattle.intern.specs.Intern.{Pieces}
-use Rattle.intern.specs.Many.{Ran, Exceed}
+use Rattle.intern.specs.Pieces.{pieces}
+use Rattle.intern.specs.Many.{Ran}
 use Rattle.intern.proofs.Rooms.{pieces-none}
 use Rattle.intern.proofs.Lists.{values-all, interns-append, interns-grow}
-use Rattle.intern.proofs.Many.{pieces-empty, ran-start, ran-then, ran-exceeds, exceed-more}
+use Rattle.intern.proofs.Many.{ran-start, ran-then, ran-exceeds, exceed-more}
 use Rattle.alphabet.specs.Seeds as alphabet
 use Rattle.alphabet.specs.declared.Seeded.{Seeded}
 use Rattle.alphabet.specs.declared.Seeded.the-variants as seeded
-use Rattle.units.specs.Gathering.{allUnits, Heaped, CanStart, Gathered}
+use Rattle.units.specs.Gathering.{allUnits, CanStart, Gathered}
 use Rattle.units.specs.Draining.{CanDrain, Drained, Emptied}
 use Rattle.units.proofs.Gathering.{first-distinct}
-use Rattle.units.proofs.Popping.{heaped-kept}
-use Rattle.word.specs.Layout.{corpus, Words, Numbers}
+use Rattle.word.specs.Layout.{Numbers}
 use Rattle.word.specs.declared.WordSet.{WordSet}
 use Rattle.word.proofs.Sets.{words-empty}
 use Rattle.encoding.specs.Encoding.{allDecorated, decoratedUnits, Fits, WordsDone}
 use Rattle.encoding.specs.declared.Encoded.{Encoded}
 use Rattle.encoding.specs.declared.Encoded.the-variants as encoded
 use Rattle.encoding.proofs.Words.{decorated-total}
-use Rattle.layout.specs.Layout.{wordsAt, unitsAt, tableAt, slotsFor, spellingsFor, cellsFor}
-use Rattle.layout.proofs.Fits.{slots-bounds, cells-for}
-use Rattle.seeding.specs.Seeding.{table, Counting, Counted, CanBegin, FirstDone, CanGoOn, RestDone, CanSeed, Sown, SeedDone}
+use Rattle.layout.specs.Layout.{wordsAt, unitsAt, tableAt, slotsFor}
+use Rattle.layout.proofs.Fits.{slots-bounds}
+use Rattle.seeding.specs.Seeding.{table, Counting, Counted, CanBegin, FirstDone, CanGoOn, RestDone, CanSeed}
 
 -- THE SEEDS THAT COME FIRST, where `heap` and `at` are the places and `slots` the slots that the layout says
 
 module _ (seeding units : ℕ) (ws es rs : List ℕ) (c : Counting seeding units ws es rs) (at slots : ℕ) (ea : at ≡ tableAt units) (el : slots ≡ slotsFor units) where
+  pub gather-slots : 2 * slots < 2 ^ 64
+  gather-slots = let s = slots-bounds units 0 (omega arith) (omega arith) in omega arith
+
   pub gather-room : at + 2 * slots ≤ length (cells rs)
   gather-room = let s = slots-bounds units 0 (omega arith) (omega arith) in omega (arith, c .room)
 

@@ -1,27 +1,26 @@
 -- Seeding as a whole: the stages one behind the other are the rule's seeding. Assumes nothing.
 use mathlib.Core.Path.{_≡_, refl, sym, ap, _∙_}
 use mathlib.Core.Bool.{true}
-use mathlib.Core.List.{List, [], _∷_, _++_, map, flatMap, foldl}
-use mathlib.Core.Logic.{_⊎_, inl, inr}
-use Prim.Native.Nat.{ℕ, _+_, _*_, _-_, _/_, _^_, _<_, _≤_}
+use mathlib.Core.List.{List, [], _++_, map, flatMap, foldl}
+use mathlib.Core.Logic.{inl, inr}
+use Prim.Native.Nat.{ℕ, _+_, _*_, _/_, _^_, _<_, _≤_}
 use native.Mathlib.Omega.{arith}
 use lib.ListN.{length}
-use Rattle.runs.specs.Parts.{nth, laid, zeros, Bytes, Kept}
+use Rattle.runs.specs.Parts.{nth, zeros, Bytes, Kept}
 use Rattle.runs.proofs.Parts.{length-zeros, nth-laid, nth-zeros}
 use Rattle.runs.proofs.Frames.{kept-then, kept-wide, kept-laid}
 use Rattle.numbers.specs.Little.{numbers}
 use Rattle.numbers.specs.Cells.{cells, Laid}
 use Rattle.numbers.proofs.Cells.{length-cells, cells-small}
 use Rattle.rule.specs.Shapes.{partsBy}
-use Rattle.rule.specs.Table.{Task, A, U, alphabet, frequencies, chars, unitsOf, wordUnits, total, roomFor}
+use Rattle.rule.specs.Table.{A, U, alphabet, frequencies, chars, unitsOf, wordUnits, total, roomFor}
 use Rattle.rule.specs.Seeding.{decorated, intern, firstSeeds, seeds, keptWith, kept}
 use Rattle.rule.specs.Layout.{pieceBytes}
 use Rattle.rule.proofs.Few.{first-apart, first-few, first-units, first-chars, seeds-forms, seeds-small, alphabet-count, interns-fresh}
 use Rattle.rule.proofs.Lengths.{length-flat}
-use Rattle.intern.specs.Pieces.{pieces, Held}
+use Rattle.intern.specs.Pieces.{pieces}
 use Rattle.intern.specs.Many.{Ran, Exceed}
 use Rattle.intern.proofs.Rooms.{pieces-none}
-use Rattle.intern.proofs.Lists.{interns-append}
 use Rattle.intern.proofs.Many.{pieces-empty, exceed-more, exceed-lengths}
 use Rattle.alphabet.specs.declared.Seeded.{Seeded}
 use Rattle.alphabet.specs.declared.Seeded.the-variants as seeded
@@ -31,8 +30,7 @@ use Rattle.encoding.specs.Encoding.{allDecorated, decoratedUnits}
 use Rattle.encoding.specs.declared.Encoded.{Encoded}
 use Rattle.encoding.specs.declared.Encoded.the-variants as encoded
 use Rattle.layout.specs.Layout.{unitsAt, tableAt, spellingsFor, cellsFor}
-use Rattle.layout.proofs.Fits.{cells-for}
-use Rattle.seeding.specs.Seeding.{table, Counting, Counted, CanBegin, FirstDone, CanGoOn, RestDone, CanSeed, Sown, SeedDone}
+use Rattle.seeding.specs.Seeding.{table, Counting, Counted, CanBegin, FirstDone, CanGoOn, RestDone, CanSeed, SeedDone}
 
 module _ (ws es fs al ae p s : List ℕ) (seeding units : ℕ) (rs : List ℕ) (g : CanSeed (table ws es fs al ae p s seeding) units rs) where
   -- the task's fields, as the stages have them
@@ -44,7 +42,7 @@ module _ (ws es fs al ae p s : List ℕ) (seeding units : ℕ) (rs : List ℕ) (
   unfolding table A
   symbols = refl
 
-  symbols-few : length ae / 4 ≤ 65536
+  pub symbols-few : length ae / 4 ≤ 65536
   symbols-few = omega (arith, symbols, g .symbols-few)
 
   cells-enough : cellsFor units (length ae / 4) ≤ length (cells rs)
@@ -69,16 +67,13 @@ module _ (ws es fs al ae p s : List ℕ) (seeding units : ℕ) (rs : List ℕ) (
     unfolding wordUnits table
     first-is = n .count
 
-    first-low : first ≤ 1114368
+    pub first-low : first ≤ 1114368
     unfolding table
     first-low = omega (arith, first-is, first-few (table ws es fs al ae p s seeding) b)
 
     first-most : first ≤ 256 + units
     unfolding table
     first-most = omega (arith, first-is, first-units (table ws es fs al ae p s seeding), g .units-are)
-
-    pub whole-spellings : (first ≤ 1114368) × (length ae / 4 ≤ 65536)
-    whole-spellings = (first-low, symbols-few)
 
     cells-long : length (cells qs) ≡ length (cells rs)
     cells-long = length-cells qs ∙ ap (λ (k : ℕ). k / 8) long ∙ sym (length-cells rs)

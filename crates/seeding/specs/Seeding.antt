@@ -20,7 +20,7 @@ use Rattle.alphabet.specs.declared.Seeded.the-variants as seeded
 use Rattle.units.specs.Gathering.{allUnits, Heaped}
 use Rattle.word.specs.Layout.{corpus, Words}
 use Rattle.word.specs.declared.WordSet.{WordSet}
-use Rattle.encoding.specs.Encoding.{allDecorated, decoratedUnits}
+use Rattle.encoding.specs.Encoding.{decoratedUnits}
 use Rattle.encoding.specs.declared.Encoded.{Encoded}
 use Rattle.encoding.specs.declared.Encoded.the-variants as encoded
 use Rattle.layout.specs.Layout.{unitsAt, tableAt, cellsFor}

@@ -4,16 +4,12 @@
 // its size from the start. What has no place is told once it is known, and the rooms are then left
 // to the caller to clear.
 ghost use mathlib.Core.Path.{_≡_};
-ghost use mathlib.Core.Bool.{true};
-ghost use mathlib.Core.List.{_++_};
-ghost use Prim.Native.Nat.{_+_, _*_, _/_, _<_, _≤_};
-ghost use lib.ListN.{length};
+ghost use Prim.Native.Nat.{_*_, _/_};
 ghost use Rattle.numbers.specs.Cells.{cells};
-ghost use Rattle.rule.specs.Shapes.{partsBy, shaped};
+ghost use Rattle.rule.specs.Shapes.{partsBy};
 ghost use Rattle.rule.specs.Table.{unitsOf};
 ghost use Rattle.rule.specs.Seeding.{firstSeeds};
-ghost use Rattle.encoding.specs.Encoding.{allDecorated, decoratedUnits};
-ghost use Rattle.layout.specs.Layout.{tableAt};
+ghost use Rattle.encoding.specs.Encoding.{allDecorated};
 ghost use Rattle.seeding.specs.Seeding.{table, Counting, Counted, CanBegin, FirstDone, CanGoOn, RestDone, CanSeed, SeedDone};
 use alphabet::Seeded;
 use encoding::Encoded;

@@ -1,6 +1,6 @@
 -- The marks of a gain: in a merge that makes x they are on the pairs that hold x, in a first count on every pair that counts. Assumes nothing.
 use mathlib.Core.Path.{_≡_, refl, sym, ap, _∙_}
-use mathlib.Core.Bool.{true, false}
+use mathlib.Core.Bool.{true, false, false≢true}
 use mathlib.Core.List.{List, [], _∷_, _++_}
 use mathlib.Core.Logic.{_⊎_, inl, inr, ⊎-elim}
 use mathlib.Core.Option.{Option, none, some}
@@ -21,7 +21,7 @@ use Rattle.states.proofs.Keys.{key-pos}
 
 -- a mark is not both off and on
 pub not-both : {A : Type 0} (k m : ℕ) → marked k m ≡ false → marked k m ≡ true → A
-not-both k m e f = let z : _≡_ {A = ℕ} 0 1 = cc in absurd (omega arith)
+not-both k m e f = absurd (false≢true (sym e ∙ f))
 
 -- A MERGE THAT MAKES x. Before it no pair has gained, and none that holds x counts, since x is new
 pub gaining-start : {σ : ℕ → State} {es : List Entry} (x : ℕ) → Calm σ → Tracks σ 0 es → AllUnder x es → x < most → Gaining σ x

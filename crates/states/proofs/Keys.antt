@@ -26,7 +26,7 @@ of-key p q h k =
     let r = right-key p q k in
     record { is = rw (l, r); left = omega arith; right = omega arith }
 
--- a lower number is a lower pair: by the left symbol, then by the right
-pub key-order : (c d : ℕ) → 0 < c → 0 < d → c ≤ d → (leftOf c ≤ leftOf d) × (leftOf c ≡ leftOf d → rightOf c ≤ rightOf d)
+-- a lower number is a lower pair, by the left symbol, then by the right; 0 acts as 1
+pub key-order : (c d : ℕ) → c ≤ d → (leftOf c ≤ leftOf d) × (leftOf c ≡ leftOf d → rightOf c ≤ rightOf d)
 unfolding leftOf rightOf
-key-order c d hc hd h = (omega arith, λ e. omega arith)
+key-order c d h = (omega arith, λ e. omega arith)

@@ -1,7 +1,7 @@
 -- States that track some words go on to: when an occurrence is rewritten and reported, when marks change, when a merge is done or settled. Assumes nothing.
-use mathlib.Core.Path.{_≡_, refl, ap, _∙_}
+use mathlib.Core.Path.{_≡_, refl, sym, ap, _∙_}
 use mathlib.Core.List.{List, [], _∷_, _++_}
-use Prim.Native.Nat.{ℕ, _+_, _*_, _<_, _≤_}
+use Prim.Native.Nat.{ℕ, _*_, _<_, _≤_}
 use native.Mathlib.Nat.{mul-le-mul-left, one-le-mul}
 use native.Mathlib.Omega.{arith}
 use lib.ListN.{length, List·getD-eq-default}
@@ -10,11 +10,11 @@ use Rattle.rule.specs.Rewriting.{bit, isPair, Report, before, after, countIn}
 use Rattle.rule.specs.Seeding.{Entry}
 use Rattle.rule.specs.Sums.{raised, lowered, symbolsIn}
 use Rattle.rule.specs.Training.{count}
-use Rattle.rule.proofs.Rewriting.{pair-hit, pair-miss}
+use Rattle.rule.proofs.Rewriting.{pair-miss}
 use Rattle.rule.proofs.Counts.{count-symbols}
 use Rattle.word.specs.Layout.{entryAt}
 use Rattle.merge.proofs.Changes.{change-this, change-other}
-use Rattle.states.specs.State.{State, blank, most, key, Among, Change}
+use Rattle.states.specs.State.{State, blank, most, key, leftOf, rightOf, OfPair, Among, Change}
 use Rattle.states.specs.Tracking.{Tracks, Reported, lastOf, withWord, Weighed, Settled}
 use Rattle.states.proofs.Keys.{key-pos, key-single}
 use Rattle.states.proofs.Hits.{length-with, count-with, count-share, hit-count, hit-lowered}
@@ -34,15 +34,9 @@ module _ (a b x k : ℕ) (P R : List ℕ) (es : List Entry) (hk : k < length es)
   share-with p q l = omega (arith, count-with p q k l es hk, count-share p q k es hk)
 
   module _ {σ : ℕ → State} {e : ℕ} (t : Tracks σ e (withWord k (P ++ (a ∷ b ∷ R)) es)) where
-    -- THERE IS ENOUGH TO LOWER, of (a,b) itself with one left over
-    enough : (p q : ℕ) → p < most → q < most → frequency * lowered p q reported + frequency * bit (isPair p q a b) ≤ σ (key p q) .count
-    enough p q hp hq = omega (arith, t .least p q hp hq, share-with p q (P ++ (a ∷ b ∷ R)), mul-le-mul-left frequency (hit-lowered p q a b x P R))
-
+    -- THERE IS ENOUGH TO LOWER
     pub hit-enough : (p q : ℕ) → p < most → q < most → entryAt es k .frequency * lowered p q (before a x (lastOf P) ++ after b x R) ≤ σ (key p q) .count
-    hit-enough p q hp hq = omega (arith, enough p q hp hq)
-
-    pub hit-double : a < most → b < most → entryAt es k .frequency * lowered a b (before a x (lastOf P) ++ after b x R) + entryAt es k .frequency ≤ σ (key a b) .count
-    hit-double ha hb = let h = rw (pair-hit a b a b refl refl) at (enough a b ha hb) in omega arith
+    hit-enough p q hp hq = omega (arith, t .least p q hp hq, share-with p q (P ++ (a ∷ b ∷ R)), mul-le-mul-left frequency (hit-lowered p q a b x P R))
 
     -- THE STATES TRACK THE REWRITTEN WORD, once its reports are in
     pub tracks-hit : e ≡ key a b → a < most → b < most → {τ : ℕ → State} → Reported (entryAt es k .frequency) k (before a x (lastOf P) ++ after b x R) σ τ
@@ -98,7 +92,6 @@ module _ {σ τ : ℕ → State} {e : ℕ} {es : List Entry} where
 
   -- A SETTLED MERGE: a pair that a word holds has a count, since every word counts, and so its list is as it was
   pub tracks-settled : Weighed es → Settled e σ τ → Tracks σ e es → Tracks τ e es
-  unfolding Weighed
   tracks-settled w s t = record {
     exact = λ p q hp hq n. s .counts (key p q) (key-pos p q) ∙ t .exact p q hp hq n;
     least = λ p q hp hq. rw (s .counts (key p q) (key-pos p q)) (t .least p q hp hq);
@@ -115,6 +108,10 @@ module _ {σ τ : ℕ → State} {e : ℕ} {es : List Entry} where
 
       held : (p q k : ℕ) → 1 ≤ countIn p q (entryAt es k .symbols) → k < length es
       held p q k l = below-or-not k (length es) (λ g. g) (λ g. absurd (omega (arith, past p q k g)))
+
+-- the count of a key that is a pair's
+pub tracked-exact : {σ : ℕ → State} {e : ℕ} {es : List Entry} → Tracks σ e es → (c : ℕ) → OfPair c → (c ≡ e → ⊥) → σ c .count ≡ count (leftOf c) (rightOf c) es
+tracked-exact {σ} t c p n = ap (λ (d : ℕ). σ d .count) (sym (p .is)) ∙ t .exact (leftOf c) (rightOf c) (p .left) (p .right) (λ z. n (sym (p .is) ∙ z))
 
 -- no count passes the symbols
 pub tracked-light : {σ : ℕ → State} {e : ℕ} {es : List Entry} → Tracks σ e es → (p q : ℕ) → (key p q ≡ e → ⊥) → p < most → q < most → σ (key p q) .count ≤ symbolsIn es

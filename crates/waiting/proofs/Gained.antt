@@ -25,6 +25,7 @@ use Rattle.marks.specs.Marks.{gained, marked}
 use Rattle.states.specs.State.{State, most, key, leftOf, rightOf, OfPair, Among}
 use Rattle.states.specs.Tracking.{Tracks, Gaining, AllGained, Touching}
 use Rattle.states.proofs.Keys.{key-pos, key-single, left-key, right-key}
+use Rattle.states.proofs.Tracks.{tracked-exact}
 use Rattle.waiting.specs.Waiting.{queueOf, gainers}
 use Rattle.waiting.proofs.Queue.{queue-none}
 use Rattle.waiting.proofs.Entered.{pairOf, AllReady, gainer-of, gainer-in, entered-gainers}
@@ -43,9 +44,6 @@ record Entering (ws : List Entry) (qu : List Choice) (cs : List Pair) (c : ℕ) 
   listed : 1 ≤ count (leftOf c) (rightOf c) ws → In (pair (leftOf c) (rightOf c)) cs
 
 module _ {σ : ℕ → State} {e : ℕ} {ws : List Entry} {ks : List ℕ} (t : Tracks σ e ws) (m : Touching σ e ks) where
-  exact-of : (c : ℕ) → OfPair c → (c ≡ e → ⊥) → σ c .count ≡ count (leftOf c) (rightOf c) ws
-  exact-of c p n = ap (λ (d : ℕ). σ d .count) (sym (p .is)) ∙ t .exact (leftOf c) (rightOf c) (p .left) (p .right) (λ z. n (sym (p .is) ∙ z))
-
   -- a pair that the rule enters is that of a candidate
   entrant-in : (p q : ℕ) → Entrant σ e p q → 1 ≤ count p q ws → In (pair p q) (map pairOf (gainers σ ks))
   entrant-in p q r h = go (m .listed (key p q) (key-pos p q) (r .other) (m .gains (key p q) (key-pos p q) has))
@@ -73,7 +71,7 @@ module _ {σ : ℕ → State} {e : ℕ} {ws : List Entry} {ks : List ℕ} (t : T
         ready : AllReady ws σ ks (queueOf cands)
         ready j l h =
             let r = f (nth ks j) (m .some j l) (h .has) in
-            record { pair = r .ofPair; exact = exact-of (nth ks j) (r .ofPair) (m .other j l); absent = r .absent }
+            record { pair = r .ofPair; exact = tracked-exact t (nth ks j) (r .ofPair) (m .other j l); absent = r .absent }
 
         made : (c : Pair) → In c (map pairOf (gainers σ ks)) → 1 ≤ count (c .left) (c .right) ws → In c cs
         made c i h =

@@ -14,18 +14,18 @@ use Rattle.queue.specs.declared.Candidate.{Candidate}
 use Rattle.queue.specs.Candidates.{rank}
 use Rattle.queue.specs.Holding.{In, Taken}
 use Rattle.queue.proofs.Holding.{rank-means, in-head, in-tail, in-rest}
-use Rattle.states.specs.State.{leftOf, rightOf}
+use Rattle.states.proofs.Keys.{key-order}
 use Rattle.waiting.specs.Waiting.{waits, queueOf}
 
--- THE ORDER BY RANK IS THE ORDER OF CHOICE. A key of 0 acts as 1, so this holds of all keys
+-- THE ORDER BY RANK IS THE ORDER OF CHOICE
 pub waits-first : (e f : Candidate) → e .key < 2 ^ 64 → rank f ≤ rank e → First (waits e) (waits f)
-unfolding waits leftOf rightOf
+unfolding waits
 waits-first e f k h = go (rank-means e f k h)
   where
     go : (f .count < e .count) ⊎ ((f .count ≡ e .count) × (e .key ≤ f .key))
         → First (waits e) (waits f)
     go (inl l) = record { counts = omega arith; lefts = λ z. absurd (omega arith); rights = λ z w. absurd (omega arith) }
-    go (inr p) = let c = p .0 in let l = p .1 in record { counts = omega arith; lefts = λ z. omega arith; rights = λ z w. omega arith }
+    go (inr p) = let c = p .0 in let o = key-order (e .key) (f .key) (p .1) in record { counts = omega arith; lefts = λ z. o .0; rights = λ z. o .1 }
 
 -- before all of those that do not win against it
 first-all : (e : Candidate) → e .key < 2 ^ 64 → (fs : List Candidate) → ((f : Candidate) → In f fs → rank f ≤ rank e) → Every (First (waits e)) (map waits fs)

@@ -1,19 +1,17 @@
 -- The laws of a word set: where its words lie, that it is as it was where its cells are, and how much room it takes. Assumes nothing.
-use mathlib.Core.Path.{_≡_, sym, ap, _∙_}
+use mathlib.Core.Path.{_≡_, sym, ap}
 use mathlib.Core.List.{List, [], map}
 use mathlib.Core.Logic.{_⊎_, inl, inr}
 use Prim.Native.Nat.{ℕ, zero, suc, _+_, _*_, _^_, _≤_, _<_}
 use native.Mathlib.Omega.{arith}
-use lib.ListN.{length, length-map}
+use lib.ListN.{length}
 use Rattle.runs.specs.Parts.{nth, part, Kept}
-use Rattle.runs.proofs.Parts.{length-part}
 use Rattle.runs.proofs.Frames.{kept-part}
 use Rattle.rule.specs.Seeding.{Entry}
 use Rattle.word.specs.Layout.{symbolIn, symbolsAt, endAt, lines, corpus, entryAt, inUse, SameIn, InLine, Words, Numbers}
 use Rattle.word.specs.Pushing.{Placed, Found}
 use Rattle.word.specs.declared.WordSet.{WordSet}
-use Rattle.word.specs.declared.Span.{Span}
-use Rattle.word.proofs.Views.{symbols-length, nth-symbols, symbols-same, corpus-none, corpus-cons, corpus-entry, corpus-lines, lines-same, line-same}
+use Rattle.word.proofs.Views.{symbols-length, symbols-same, corpus-none, corpus-cons, corpus-entry, corpus-lines, lines-same, line-same}
 
 -- WHERE A WORD LIES
 
@@ -53,11 +51,6 @@ module _ (w : WordSet) (cs : List ℕ) (σ : Words w cs) (k s : ℕ) (h : k < w 
       room : s + 2 + n ≤ length cs
       room = omega (arith, p .high, σ .room)
 
--- and a symbol of it
-pub symbol-found : (w : WordSet) (cs : List ℕ) (k : ℕ) (r : Span) → Found w k cs r → (j : ℕ) → j < r .length
-    → symbolIn (nth cs (r .start + j)) ≡ nth (entryAt (corpus cs (w .starts) (w .count)) k .symbols) j
-symbol-found w cs k r f j h = rw (← f .symbols) (sym (nth-symbols (r .start) (r .length) cs j h))
-
 -- CELLS THAT ARE AS THEY WERE
 
 module _ (cs ds : List ℕ) (starts n lo hi : ℕ) (l : InLine cs starts n lo hi) where
@@ -90,11 +83,10 @@ module _ (cs ds : List ℕ) (starts n lo hi : ℕ) (l : InLine cs starts n lo hi
 
 module _ (w : WordSet) (cs ds : List ℕ) (σ : Words w cs) (e : length ds ≡ length cs)
     (p : SameIn (w .starts) (w .starts + w .count) cs ds) (q : SameIn (w .low) (w .top) cs ds) where
-  pub lines-as-they-were : lines ds (w .starts) (w .count) ≡ lines cs (w .starts) (w .count)
-  lines-as-they-were = lines-in-line cs ds (w .starts) (w .count) (w .low) (w .top) (σ .inLine) p q (σ .room) e
-
   pub corpus-as-it-was : corpus ds (w .starts) (w .count) ≡ corpus cs (w .starts) (w .count)
-  corpus-as-it-was = corpus-lines cs ds (w .starts) (w .count) lines-as-they-were
+  corpus-as-it-was =
+      corpus-lines cs ds (w .starts) (w .count)
+      (lines-in-line cs ds (w .starts) (w .count) (w .low) (w .top) (σ .inLine) p q (σ .room) e)
 
   pub words-as-they-were : Words w ds
   words-as-they-were = record {
@@ -122,9 +114,6 @@ module _ (w : WordSet) (cs ds : List ℕ) (lo hi : ℕ) (σ : Words w cs) (k : K
 
   pub words-kept : Words w ds
   words-kept = words-as-they-were w cs ds σ (k .long) places inside
-
-  pub lines-kept : lines ds (w .starts) (w .count) ≡ lines cs (w .starts) (w .count)
-  lines-kept = lines-as-they-were w cs ds σ (k .long) places inside
 
   pub corpus-kept : corpus ds (w .starts) (w .count) ≡ corpus cs (w .starts) (w .count)
   corpus-kept = corpus-as-it-was w cs ds σ (k .long) places inside
@@ -157,7 +146,7 @@ module _ (r : WordSet) (starts low : ℕ) (cs : List ℕ) (n : Numbers r starts 
 
 -- ROOM: the symbols in use, and two cells a word, lie between the bounds
 pub line-room : (cs : List ℕ) (starts n lo hi : ℕ) → InLine cs starts n lo hi → hi ≤ length cs → lo + inUse (corpus cs starts n) + 2 * n ≤ hi
-unfolding inUse
+unfolding symbolsAt inUse
 line-room cs starts zero lo hi l r = rw (corpus-none cs starts) (omega (arith, l .span))
 line-room cs starts (suc n) lo hi l r =
     let z : starts + 0 ≡ starts = omega arith in
@@ -172,7 +161,7 @@ line-room cs starts (suc n) lo hi l r =
     } in
     let i = line-room cs (starts + 1) n (endAt cs (nth cs starts)) hi rest r in
     let m : length (map symbolIn (part (nth cs starts + 2) (nth cs (nth cs starts + 1)) cs)) ≡ nth cs (nth cs starts + 1) =
-    length-map (part (nth cs starts + 2) (nth cs (nth cs starts + 1)) cs) symbolIn ∙ length-part (nth cs starts + 2) (nth cs (nth cs starts + 1)) cs (omega arith) in
+    symbols-length (nth cs starts + 2) (nth cs (nth cs starts + 1)) cs (omega arith) in
     rw (corpus-cons cs starts n) (omega arith)
 
 pub words-room : (w : WordSet) (cs : List ℕ) → Words w cs → w .low + w .live + 2 * w .count ≤ w .top

@@ -1,10 +1,11 @@
 -- The laws of symbols in cells, and of the words that some cells hold. Assumes nothing.
 use mathlib.Core.Path.{_≡_, refl, sym, ap, _∙_}
-use mathlib.Core.List.{List, [], _∷_, _++_, map, map-append}
-use Prim.Native.Nat.{ℕ, zero, suc, _+_, _%_, _^_, _≤_, _<_}
+use mathlib.Core.List.{List, [], _∷_, _++_, map-append}
+use Prim.Native.Nat.{ℕ, zero, suc, _+_, _-_, _%_, _^_, _≤_, _<_}
 use native.Mathlib.Omega.{arith}
 use native.Mathlib.Numerals.{add-one}
-use lib.ListN.{length, length-map, List·getD-map}
+use lib.ListN.{length, drop, length-map, List·getD-map}
+use lib.Seq.{drop-cons}
 use Rattle.runs.specs.Parts.{nth, part}
 use Rattle.runs.proofs.Parts.{length-part, nth-part, part-none, part-more, part-cons, part-part, part-ext}
 use Rattle.rule.specs.Seeding.{Entry}
@@ -12,10 +13,6 @@ use Rattle.rule.specs.Sums.{Under, AllUnder}
 use Rattle.word.specs.Layout.{symbolIn, symbolsAt, endAt, line, lines, bySymbols, corpus, entryAt, inUse}
 
 -- SYMBOLS
-
-pub symbol-lt : (v : ℕ) → symbolIn v < 2 ^ 32
-unfolding symbolIn
-symbol-lt v = omega arith
 
 pub symbol-alone : (v : ℕ) → v < 2 ^ 32 → symbolIn v ≡ v
 unfolding symbolIn
@@ -42,6 +39,19 @@ module _ (at n : ℕ) (cs : List ℕ) where
   pub symbols-cons : at < length cs → symbolsAt at (n + 1) cs ≡ symbolIn (nth cs at) ∷ symbolsAt (at + 1) n cs
   unfolding symbolsAt
   symbols-cons h = rw (part-cons at n cs h)
+
+-- two symbols and the rest, and the same without the first
+module _ (at n : ℕ) (cs : List ℕ) (h : 1 < n) (l : at + n ≤ length cs) where
+  pub symbols-two : symbolsAt at n cs ≡ symbolIn (nth cs at) ∷ symbolIn (nth cs (at + 1)) ∷ symbolsAt (at + 1 + 1) (n - 2) cs
+  symbols-two =
+      let e : n ≡ n - 2 + 1 + 1 = omega arith in
+      ap (λ (m : ℕ). symbolsAt at m cs) e
+      ∙ rw (symbols-cons at (n - 2 + 1) cs (omega arith), symbols-cons (at + 1) (n - 2) cs (omega arith))
+
+  pub symbols-next : symbolsAt (at + 1) (n - 1) cs ≡ symbolIn (nth cs (at + 1)) ∷ symbolsAt (at + 1 + 1) (n - 2) cs
+  symbols-next =
+      let e : n - 1 ≡ n - 2 + 1 = omega arith in
+      ap (λ (m : ℕ). symbolsAt (at + 1) m cs) e ∙ symbols-cons (at + 1) (n - 2) cs (omega arith)
 
 pub symbols-none : (at : ℕ) (cs : List ℕ) → symbolsAt at 0 cs ≡ []
 unfolding symbolsAt
@@ -82,6 +92,10 @@ corpus-entry cs starts (suc n) zero h = let e : starts + 0 ≡ starts = omega ar
 corpus-entry cs starts (suc n) (suc k) h =
     let e : starts + 1 + k ≡ starts + suc k = omega arith in
     rw (← e) (corpus-entry cs (starts + 1) n k (omega arith))
+
+pub drop-entry : (es : List Entry) (k : ℕ) → k < length es → drop k es ≡ entryAt es k ∷ drop (k + 1) es
+unfolding entryAt
+drop-entry es k h = rw (add-one k) (drop-cons es k (record { frequency = 0; symbols = [] }) h)
 
 -- one word more, at the end
 pub lines-more : (cs : List ℕ) (starts n : ℕ) → lines cs starts (n + 1) ≡ lines cs starts n ++ (line cs (nth cs (starts + n)) ∷ [])
@@ -150,18 +164,7 @@ unfolding inUse
 inUse-append [] fs = omega arith
 inUse-append (e ∷ es) fs = let h = inUse-append es fs in omega arith
 
--- every symbol of a set is below 2 ^ 32
-below-symbols : (l : List ℕ) → Under (2 ^ 32) (map symbolIn l)
-unfolding Under
-below-symbols [] = tt
-below-symbols (s ∷ l) = (symbol-lt s, below-symbols l)
-
-pub corpus-below : (cs : List ℕ) (starts n : ℕ) → AllUnder (2 ^ 32) (corpus cs starts n)
-unfolding corpus lines AllUnder
-corpus-below cs starts zero = tt
-corpus-below cs starts (suc n) = (below-symbols (part (nth cs starts + 2) (nth cs (nth cs starts + 1)) cs), corpus-below cs (starts + 1) n)
-
--- and of each word, below what they all are
+-- what the symbols of all words are below, those of each are
 pub under-at : (m : ℕ) (es : List Entry) (k : ℕ) → AllUnder m es → k < length es → Under m (entryAt es k .symbols)
 unfolding AllUnder entryAt
 under-at m [] k b h = absurd (omega arith)

@@ -3,7 +3,7 @@ use borrow.Author.Needs.{needs}
 use native.Mathlib.Omega.{arith}
 use mathlib.Core.Path.{_≡_}
 use mathlib.Core.Bool.{true}
-use Prim.Native.Nat.{_+_, _-_, _/_, _^_, _≤_, _<_}
+use Prim.Native.Nat.{_-_, _/_, _^_, _≤_, _<_}
 use lib.ListN.{length}
 use Rattle.numbers.specs.Little.{numbers}
 use Rattle.rule.specs.Shapes.{riseTo}
@@ -58,7 +58,7 @@ enum-known-r : tie.Need-enum-known-r Inv-loop μ-loop
 enum-known-r c = search laws
 
 add-k : tie.Need-add-k Inv-loop μ-loop
-add-k c = omega (arith, c .before .before .before .before .before .before .before .before .before .before .before .before .before .before .before .loop-test .taken, c .before .before .before .before .before .before .before .before .before .before .before .before .before .before .before .before .loop .inv .1)
+add-k c = search laws
 
 loop-less : tie.Need-loop-less Inv-loop μ-loop
 loop-less c = search laws

@@ -1,11 +1,11 @@
 -- `output::append_piece` meets its contract: what has no place is refused before anything is written.
 use borrow.Author.Needs.{needs}
 use native.Mathlib.Omega.{arith}
-use Rattle.output.proofs.Appending.{between, no-ends, no-bytes, too-long, can-join, end-fits, piece-done}
+use Rattle.output.proofs.Appending.{rises, ends-inside, no-ends, no-bytes, too-long, can-join, end-fits, piece-done}
 use Rattle.output.proofs.append_piece.Statement.{statement}
 use Rattle.output.proofs.append_piece.Tie as tie
 
-ruleset laws = (between, no-ends, no-bytes, too-long, can-join, end-fits, piece-done, needs)
+ruleset laws = (rises, ends-inside, no-ends, no-bytes, too-long, end-fits, piece-done, needs)
 
 returns : tie.Need-returns
 returns c = search laws
@@ -56,10 +56,10 @@ piece-start-requires-4 : tie.Need-piece-start-requires-4
 piece-start-requires-4 c κs = search laws
 
 sub-join : tie.Need-sub-join
-sub-join c = let p = c .before .before .before .before .before .before .before .before .before .before .before .before .before .before .before .before .before .before .pre in omega (arith, between _ _ _ _ _ (p .0) (p .1) _ _ (c .before .before .before .before .before .before .before .piece-start .ensures) (c .before .before .before .before .before .piece-start2 .ensures))
+sub-join c = search laws
 
 sub-join-2 : tie.Need-sub-join-2
-sub-join-2 c = let p = c .before .before .before .before .before .before .before .before .before .before .before .before .before .before .before .before .before .before .pre in omega (arith, between _ _ _ _ _ (p .0) (p .2) _ _ (c .before .before .before .piece-start3 .ensures) (c .before .piece-start4 .ensures))
+sub-join-2 c = search laws
 
 join-requires : tie.Need-join-requires
 join-requires c κs = let p = c .before .before .before .before .before .before .before .before .before .before .before .before .before .before .before .before .before .before .pre in can-join _ _ _ _ _ _ _ (p .0) (p .1) (p .2) _ _ _ _ (c .before .before .before .before .before .before .before .piece-start .ensures) (c .before .before .before .before .before .piece-start2 .ensures) (c .before .before .before .piece-start3 .ensures) (c .before .piece-start4 .ensures) _ (c .before .before .before .before .before .before .before .before .before .before .before .joined-bytes .ensures) (omega (arith, c .before .before .before .before .before .before .before .before .before .before .if2 .left))
@@ -68,7 +68,7 @@ mul-store4 : tie.Need-mul-store4
 mul-store4 c = search laws
 
 cast-store4 : tie.Need-cast-store4
-cast-store4 c = let p = c .before .before .before .before .before .before .before .before .before .before .before .before .before .before .before .before .before .before .before .before .before .before .pre in let z = end-fits _ _ _ _ _ _ _ (p .0) (p .1) (p .2) _ _ _ _ (c .before .before .before .before .before .before .before .before .before .before .before .piece-start .ensures) (c .before .before .before .before .before .before .before .before .before .piece-start2 .ensures) (c .before .before .before .before .before .before .before .piece-start3 .ensures) (c .before .before .before .before .before .piece-start4 .ensures) _ (c .before .before .before .before .before .before .before .before .before .before .before .before .before .before .before .joined-bytes .ensures) (omega (arith, c .before .before .before .before .before .before .before .before .before .before .before .before .before .before .if2 .left)) (omega (arith, c .before .before .before .before .before .before .before .before .before .before .before .before .before .if3 .left)) _ _ (c .before .before .before .join .ensures) in omega arith
+cast-store4 c = search laws
 
 store4-requires : tie.Need-store4-requires
 store4-requires c κs = search laws
@@ -80,7 +80,7 @@ same-length-6 : tie.Need-same-length-6
 same-length-6 c = search laws
 
 returns-4 : tie.Need-returns-4
-returns-4 c = let p = c .before .before .before .before .before .before .before .before .before .before .before .before .before .before .before .before .before .before .before .before .before .before .before .before .before .pre in piece-done _ _ _ _ _ _ _ (p .0) (p .1) (p .2) _ _ _ _ (c .before .before .before .before .before .before .before .before .before .before .before .before .before .before .piece-start .ensures) (c .before .before .before .before .before .before .before .before .before .before .before .before .piece-start2 .ensures) (c .before .before .before .before .before .before .before .before .before .before .piece-start3 .ensures) (c .before .before .before .before .before .before .before .before .piece-start4 .ensures) _ (c .before .before .before .before .before .before .before .before .before .before .before .before .before .before .before .before .before .before .joined-bytes .ensures) (omega (arith, c .before .before .before .before .before .before .before .before .before .before .before .before .before .before .before .before .before .if2 .left)) (omega (arith, c .before .before .before .before .before .before .before .before .before .before .before .before .before .before .before .before .if3 .left)) _ _ (c .before .before .before .before .before .before .join .ensures) _ (omega (arith, c .before .before .before .before .before .before .before .before .before .before .before .before .before .before .before .before .before .before .before .before .before .if1 .left)) (c .before .before .store4 .ensures)
+returns-4 c = search laws
 
 pub append-piece-spec : {M : Type 1} → statement M
 append-piece-spec =

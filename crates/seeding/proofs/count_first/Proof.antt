@@ -1,4 +1,4 @@
--- `seeding::count_first` meets its contract.
+-- `seeding::count_first` meets its contract: the gathered units, or 256 byte values.
 use borrow.Author.Needs.{needs}
 use Rattle.seeding.proofs.Stages.{counted-bytes}
 use Rattle.seeding.proofs.count_first.Statement.{statement}

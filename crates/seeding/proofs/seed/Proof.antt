@@ -2,26 +2,26 @@
 use borrow.Author.Needs.{needs}
 use native.Mathlib.Omega.{arith}
 use Rattle.units.proofs.Gathering.{bytes-known}
-use Rattle.seeding.proofs.Whole.{whole-few, whole-counting, whole-spellings, whole-room, whole-begin, whole-on, whole-out, whole-done}
+use Rattle.seeding.proofs.Whole.{whole-few, whole-counting, first-low, symbols-few, whole-room, whole-begin, whole-on, whole-out, whole-done}
 use Rattle.seeding.proofs.seed.Statement.{statement}
 use Rattle.seeding.proofs.seed.Tie as tie
 
-ruleset laws = (whole-few, whole-counting, needs)
+ruleset laws = (whole-few, whole-counting, first-low, symbols-few, whole-room, whole-begin, whole-out, needs)
 
 table-at-requires : tie.Need-table-at-requires
 table-at-requires c κs = search laws
 
 count-first-requires : tie.Need-count-first-requires
-count-first-requires c κs = whole-counting _ _ _ _ _ _ _ _ _ _ (c .before .before .before .before .before .before .before .before .before .before .before .before .pre)
+count-first-requires c κs = search laws
 
 spellings-for-requires : tie.Need-spellings-for-requires
-spellings-for-requires c κs = whole-spellings _ _ _ _ _ _ _ _ _ _ (c .before .before .before .before .before .before .before .before .before .before .before .before .before .before .before .pre) (bytes-known _ (λ j. omega (arith, c .before .before .before .before .before .before .before .before .before .before .before .shared-slice-known .given j))) _ (omega (arith, c .before .before .count-first .kept)) _ (c .before .before .count-first .ensures)
+spellings-for-requires c κs = let b = bytes-known (c .before .before .before .before .before .before .before .before .before .before .before .before .before .before .before .args .words .now) (λ j. omega (arith, c .before .before .before .before .before .before .before .before .before .before .before .shared-slice-known .given j)) in search laws
 
 clear-cells-requires : tie.Need-clear-cells-requires
-clear-cells-requires c κs = whole-room _ _ _ _ _ _ _ _ _ _ (c .before .before .before .before .before .before .before .before .before .before .before .before .before .before .before .before .before .pre) (bytes-known _ (λ j. omega (arith, c .before .before .before .before .before .before .before .before .before .before .before .before .before .shared-slice-known .given j))) _ (omega (arith, c .before .before .before .before .count-first .kept)) _ (c .before .before .before .before .count-first .ensures) _ _ (c .before .before .before .before .before .before .table-at .ensures) (c .before .spellings-for .ensures)
+clear-cells-requires c κs = let b = bytes-known (c .before .before .before .before .before .before .before .before .before .before .before .before .before .before .before .before .before .args .words .now) (λ j. omega (arith, c .before .before .before .before .before .before .before .before .before .before .before .before .before .shared-slice-known .given j)) in search laws
 
 seed-first-requires : tie.Need-seed-first-requires
-seed-first-requires c κs = whole-begin _ _ _ _ _ _ _ _ _ _ (c .before .before .before .before .before .before .before .before .before .before .before .before .before .before .before .before .before .before .before .before .before .before .before .pre) (bytes-known _ (λ j. omega (arith, c .before .before .before .before .before .before .before .before .before .before .before .before .before .before .before .before .before .before .before .shared-slice-known .given j))) _ (omega (arith, c .before .before .before .before .before .before .before .before .before .before .count-first .kept)) _ (c .before .before .before .before .before .before .before .before .before .before .count-first .ensures) _ _ (c .before .before .before .before .before .before .before .before .before .before .before .before .table-at .ensures) (c .before .before .before .before .before .before .before .spellings-for .ensures) _ (c .before .before .before .before .before .clear-cells .ensures) _ _ (omega arith)
+seed-first-requires c κs = let b = bytes-known (c .before .before .before .before .before .before .before .before .before .before .before .before .before .before .before .before .before .before .before .before .before .before .before .args .words .now) (λ j. omega (arith, c .before .before .before .before .before .before .before .before .before .before .before .before .before .before .before .before .before .before .before .shared-slice-known .given j)) in search laws
 
 enum-told : tie.Need-enum-told
 enum-told c = search laws
@@ -42,7 +42,7 @@ same-length-3 : tie.Need-same-length-3
 same-length-3 c = search laws
 
 returns : tie.Need-returns
-returns c = whole-out _ _ _ _ _ _ _ _ _ _ (c .before .before .before .before .before .before .before .before .before .before .before .before .before .before .before .before .before .before .before .before .before .before .before .before .before .before .before .before .before .before .before .before .pre) (bytes-known _ (λ j. omega (arith, c .before .before .before .before .before .before .before .before .before .before .before .before .before .before .before .before .before .before .before .before .before .before .before .before .before .before .before .before .shared-slice-known .given j))) _ (omega (arith, c .before .before .before .before .before .before .before .before .before .before .before .before .before .before .before .before .before .before .before .count-first .kept)) _ (c .before .before .before .before .before .before .before .before .before .before .before .before .before .before .before .before .before .before .before .count-first .ensures) _ _ _ _ (c .before .before .before .before .before .before .before .before .before .before .before .before .before .before .before .before .before .before .before .before .before .table-at .ensures) (c .before .before .before .before .before .before .before .before .before .before .before .before .before .before .before .before .spellings-for .ensures) _ _ _ _ (c .before .before .before .before .before .before .before .before .seed-first .ensures) (c .enum-told .given .1) _ _ _
+returns c = let b = bytes-known (c .before .before .before .before .before .before .before .before .before .before .before .before .before .before .before .before .before .before .before .before .before .before .before .before .before .before .before .before .before .before .before .before .args .words .now) (λ j. omega (arith, c .before .before .before .before .before .before .before .before .before .before .before .before .before .before .before .before .before .before .before .before .before .before .before .before .before .before .before .before .shared-slice-known .given j)) in search laws
 
 same-length-4 : tie.Need-same-length-4
 same-length-4 c = omega (arith, c .before .before .before .before .before .before .seed-rest .kept, c .before .before .before .before .before .before .before .before .before .before .before .before .before .before .before .before .before .before .before .seed-first .kept, c .before .before .before .before .before .before .before .before .before .before .before .before .before .before .before .before .before .before .before .before .before .before .before .before .before .clear-cells .kept, c .before .before .before .before .before .before .before .before .before .before .before .before .before .before .before .before .before .before .before .before .before .before .before .before .before .before .before .before .before .before .count-first .kept)

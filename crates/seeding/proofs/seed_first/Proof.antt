@@ -1,4 +1,4 @@
--- `seeding::seed_first` meets its contract.
+-- `seeding::seed_first` meets its contract: the units come out of the heap in order, or the byte values are interned.
 use borrow.Author.Needs.{needs}
 use Rattle.seeding.proofs.Stages.{drain-can, bytes-can, first-drained, first-valued}
 use Rattle.seeding.proofs.seed_first.Statement.{statement}

@@ -1,6 +1,5 @@
 -- `tour::stored_all` is safe and ends: the place stays within the table.
 use borrow.Author.Needs.{needs}
-use mathlib.Core.Path.{_≡_}
 use Prim.Native.Nat.{_-_, _≤_}
 use Rattle.tour.proofs.stored_all.Statement.{statement}
 use Rattle.tour.proofs.stored_all.Tie as tie
