@@ -1,4 +1,4 @@
--- The symbols of the first k words, and that every symbol of a word is small. Assumes nothing.
+-- The symbols of the first k words, weighed and counted. Assumes nothing.
 use mathlib.Core.Path.{_≡_, refl}
 use mathlib.Core.List.{List, [], _∷_}
 use Prim.Native.Nat.{ℕ, zero, suc, _+_, _*_, _<_, _≤_}
@@ -6,10 +6,9 @@ use native.Mathlib.Omega.{arith}
 use native.Mathlib.Nat.{mul-zero}
 use native.Mathlib.Numerals.{add-one}
 use lib.ListN.{length}
-use Rattle.runs.specs.Parts.{nth}
 use Rattle.rule.specs.Seeding.{Entry}
-use Rattle.rule.specs.Sums.{Under, symbolsIn}
-use Rattle.word.specs.Layout.{entryAt, inUse}
+use Rattle.rule.specs.Sums.{symbolsIn, inUse}
+use Rattle.word.specs.Layout.{entryAt}
 use Rattle.states.specs.Tracking.{upTo}
 
 -- no words, no symbols
@@ -18,7 +17,7 @@ unfolding upTo symbolsIn
 weight-none [] = refl
 weight-none (e ∷ es) = omega (arith, mul-zero (e .frequency), weight-none es)
 
--- word k weighs no more than the words from k on
+-- the first k words and word k weigh no more than all
 pub weight-word : (k : ℕ) (es : List Entry) → k < length es → symbolsIn (upTo k es) + entryAt es k .frequency * length (entryAt es k .symbols) ≤ symbolsIn es
 unfolding upTo symbolsIn entryAt
 weight-word k [] h = absurd (omega arith)
@@ -43,11 +42,3 @@ unfolding upTo inUse
 used-most k [] = omega arith
 used-most zero (e ∷ es) = omega (arith, used-none es)
 used-most (suc k) (e ∷ es) = omega (arith, used-most k es)
-
--- EVERY SYMBOL IS SMALL
-
-pub under-nth : (m : ℕ) (l : List ℕ) (j : ℕ) → Under m l → j < length l → nth l j < m
-unfolding Under nth
-under-nth m [] j u h = absurd (omega arith)
-under-nth m (s ∷ l) zero u h = u .0
-under-nth m (s ∷ l) (suc j) u h = under-nth m l j (u .1) (omega arith)

@@ -9,6 +9,7 @@ use Rattle.runs.specs.Parts.{nth}
 use Rattle.runs.proofs.Parts.{same-or-not}
 use Rattle.runs.proofs.Frames.{kept-none, kept-then}
 use Rattle.rule.specs.Rewriting.{more}
+use Rattle.rule.proofs.Counts.{under-nth}
 use Rattle.word.specs.Layout.{symbolIn, symbolsAt, corpus}
 use Rattle.word.specs.Pushing.{Found}
 use Rattle.word.specs.declared.WordSet.{WordSet}
@@ -23,7 +24,6 @@ use Rattle.pairs.specs.View.{state}
 use Rattle.pairs.specs.declared.Pairs.{Pairs}
 use Rattle.reports.specs.Reports.{beyond, CanRaise, RaiseDone}
 use Rattle.census.specs.Census.{wordOf, CanCountWord, WordCounted, Raising}
-use Rattle.census.proofs.Sizes.{under-nth}
 
 -- THE REPORTS OF A WORD, from its front
 

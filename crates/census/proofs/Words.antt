@@ -6,7 +6,8 @@ use Prim.Native.Nat.{ℕ, _+_, _*_, _^_, _<_, _≤_}
 use native.Mathlib.Omega.{arith}
 use lib.ListN.{length}
 use Rattle.runs.proofs.Frames.{kept-none, kept-then}
-use Rattle.word.specs.Layout.{corpus, inUse}
+use Rattle.rule.specs.Sums.{inUse}
+use Rattle.word.specs.Layout.{corpus}
 use Rattle.word.specs.declared.WordSet.{WordSet}
 use Rattle.word.proofs.Views.{corpus-length}
 use Rattle.word.proofs.Sets.{words-kept, corpus-kept}

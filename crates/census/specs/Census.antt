@@ -4,8 +4,8 @@ use Prim.Native.Nat.{ℕ, _+_, _*_, _^_, _<_, _≤_}
 use lib.ListN.{length}
 use Rattle.runs.specs.Parts.{nth, Kept}
 use Rattle.rule.specs.Seeding.{Entry}
-use Rattle.rule.specs.Sums.{AllUnder, symbolsIn}
-use Rattle.word.specs.Layout.{symbolIn, symbolsAt, corpus, entryAt, inUse, Words}
+use Rattle.rule.specs.Sums.{AllUnder, symbolsIn, inUse}
+use Rattle.word.specs.Layout.{symbolIn, symbolsAt, corpus, entryAt, Words}
 use Rattle.word.specs.declared.WordSet.{WordSet}
 use Rattle.states.specs.State.{State, most, key}
 use Rattle.states.specs.Tracking.{Tracks, Reported, mores, AllGained, upTo}

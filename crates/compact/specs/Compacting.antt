@@ -5,7 +5,8 @@ use mathlib.Core.Logic.{_⊎_}
 use Prim.Native.Nat.{ℕ, _+_, _*_, _≤_, _<_}
 use lib.ListN.{length}
 use Rattle.runs.specs.Parts.{nth, put, part, laid, Kept}
-use Rattle.word.specs.Layout.{endAt, line, lines, corpus, inUse, InLine, Words, Numbers}
+use Rattle.rule.specs.Sums.{inUse}
+use Rattle.word.specs.Layout.{endAt, line, lines, corpus, InLine, Words, Numbers}
 use Rattle.word.specs.declared.WordSet.{WordSet}
 
 -- the words lie without gaps, and are the words that they were, cell by cell; outside of the set nothing changes

@@ -11,7 +11,7 @@ use Rattle.runs.proofs.Parts.{same-or-not}
 use Rattle.rule.specs.Table.{Task}
 use Rattle.rule.specs.Seeding.{Entry}
 use Rattle.rule.specs.Training.{Choice, joinedOf, rewriteAll}
-use Rattle.rule.proofs.Counts.{count-gone}
+use Rattle.rule.proofs.Counts.{count-gone, all-under-more}
 use Rattle.lazy.specs.Lazy.{gained as gainedQueue}
 use Rattle.queue.specs.declared.Candidate.{Candidate}
 use Rattle.queue.specs.Holding.{In, Holds}
@@ -41,7 +41,7 @@ use Rattle.joining.specs.Joining.{Midway, JoinedAll}
 use Rattle.joining.specs.declared.Joined.{Joined}
 use Rattle.engine.specs.declared.Engine.{Engine}
 use Rattle.engine.specs.Engine.{wordsIn, Limits, Queued, Waiting, Engaged, CanJoin, JoinDone, Tidied}
-use Rattle.engine.proofs.Sums.{all-under-more, gone-entry}
+use Rattle.engine.proofs.Sums.{gone-entry}
 use Rattle.engine.proofs.Queues.{queued-older, queued-join, queued-room, gainer-keys, in-append}
 
 -- a state with the mark of a touch

@@ -9,9 +9,9 @@ use lib.ListN.{length}
 use Rattle.runs.specs.Parts.{nth}
 use Rattle.rule.specs.Table.{Task}
 use Rattle.rule.specs.Seeding.{Entry}
-use Rattle.rule.specs.Sums.{AllUnder}
+use Rattle.rule.specs.Sums.{AllUnder, inUse}
 use Rattle.rule.specs.Training.{Choice, joinedOf, rewriteAll}
-use Rattle.lazy.specs.Lazy.{units, seeds, wordsWith, gained as gainedQueue}
+use Rattle.lazy.specs.Lazy.{seeds, wordsWith, gained as gainedQueue}
 use Rattle.lazy.specs.Invariant.{Every}
 use Rattle.lazy.proofs.Invariant.{inv-seeds, inv-join}
 use Rattle.lazy.proofs.Bound.{potential-seeds, potential-join, room-seeds, room-join}
@@ -45,8 +45,8 @@ limits-of : (prefix : List ℕ) (limit : ℕ) → Limits (taskOf prefix limit) p
 limits-of prefix limit = record { prefix-is = refl; limit-is = refl }
 
 -- AT THE START every pair that occurs waits
-pub queued-start : (prefix : List ℕ) (limit : ℕ) (ps : List (List ℕ)) (es : List Entry) (places : ℕ) → AllUnder (length ps) es → 3 * units es ≤ places
-    → Queued prefix limit ps es places (5 * units es) (seeds es)
+pub queued-start : (prefix : List ℕ) (limit : ℕ) (ps : List (List ℕ)) (es : List Entry) (places : ℕ) → AllUnder (length ps) es → 3 * inUse es ≤ places
+    → Queued prefix limit ps es places (5 * inUse es) (seeds es)
 queued-start prefix limit ps es places u h =
     record { inv = λ t l. inv-seeds t ps es u; fuel = potential-seeds es; few = omega (arith, room-seeds es) }
 

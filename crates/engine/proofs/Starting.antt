@@ -8,9 +8,9 @@ use lib.ListN.{length}
 use Rattle.runs.specs.Parts.{nth, laid, zeros, Kept}
 use Rattle.runs.proofs.Parts.{nth-laid, length-zeros, nth-zeros}
 use Rattle.runs.proofs.Frames.{kept-laid, kept-wide, kept-then}
-use Rattle.rule.specs.Sums.{AllUnder}
-use Rattle.lazy.specs.Lazy.{units}
+use Rattle.rule.specs.Sums.{AllUnder, inUse}
 use Rattle.queue.proofs.Holding.{holds-none}
+use Rattle.rule.proofs.Counts.{all-under-more}
 use Rattle.word.specs.Layout.{Words}
 use Rattle.word.specs.declared.WordSet.{WordSet}
 use Rattle.word.proofs.Sets.{words-kept, corpus-kept}
@@ -28,7 +28,6 @@ use Rattle.waiting.proofs.Gained.{queue-seeds}
 use Rattle.census.specs.Census.{CanCount, CountDone}
 use Rattle.settling.specs.Settling.{CanSettle, SettleDone}
 use Rattle.engine.specs.Engine.{wordsIn, Waiting, CanStart, Started, CanClear, Cleared}
-use Rattle.engine.proofs.Sums.{units-in-use, all-under-more}
 use Rattle.engine.proofs.Queues.{queued-start, gainer-keys}
 
 -- CLEARED CELLS
@@ -135,8 +134,8 @@ module _ (w : WordSet) (p : Pairs) (x : ℕ) (cs ds : List ℕ) (s : CanStart w 
             (queued-start prefix limit ps (wordsIn w cs) (p .most) (rw e (s .under)) (omega (arith, s .space, live-is)));
       }
         where
-          live-is : w .live ≡ units (wordsIn w cs)
-          live-is = s .words .used ∙ sym (units-in-use (wordsIn w cs))
+          live-is : w .live ≡ inUse (wordsIn w cs)
+          live-is = s .words .used
 
       pub started : Started w p x cs fs (record { words = w; pairs = p; queue = beyond p; waiting = m; turns = 5 * w .live })
       started = record {

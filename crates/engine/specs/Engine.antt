@@ -6,9 +6,8 @@ use lib.ListN.{length}
 use Rattle.runs.specs.Parts.{Kept}
 use Rattle.rule.specs.Table.{Task}
 use Rattle.rule.specs.Seeding.{Entry}
-use Rattle.rule.specs.Sums.{AllUnder, symbolsIn}
+use Rattle.rule.specs.Sums.{AllUnder, symbolsIn, inUse}
 use Rattle.rule.specs.Training.{Choice, count, joinedOf, rewriteAll}
-use Rattle.lazy.specs.Lazy.{units}
 use Rattle.lazy.specs.Sums.{potential}
 use Rattle.lazy.specs.Invariant.{Inv}
 use Rattle.queue.specs.declared.Candidate.{Candidate}
@@ -52,7 +51,7 @@ pub record Limits (t : Task) (prefix : List ℕ) (limit : ℕ) : Type 0 where
 pub record Queued (prefix : List ℕ) (limit : ℕ) (ps : List (List ℕ)) (es : List Entry) (places k : ℕ) (qu : List Choice) : Type 0 where
   pub inv : (t : Task) → Limits t prefix limit → Inv t ps es qu
   pub fuel : potential es qu ≤ k
-  pub few : length qu + 2 * units es ≤ places
+  pub few : length qu + 2 * inUse es ≤ places
 
 -- THE QUEUE of m candidates from the cell q on, but for the entries `taken` that stand outside of it (one that was taken out, or none)
 pub record Waiting (q m k places : ℕ) (prefix : List ℕ) (limit : ℕ) (ps : List (List ℕ)) (es : List Entry) (taken : List Choice) (cs : List ℕ) : Type 0 where

@@ -6,10 +6,10 @@ use native.Mathlib.Omega.{arith}
 use lib.ListN.{length}
 use Rattle.rule.specs.Rewriting.{rewrite, countIn}
 use Rattle.rule.specs.Seeding.{Entry}
-use Rattle.rule.specs.Sums.{Under, AllUnder, symbolsIn}
+use Rattle.rule.specs.Sums.{Under, AllUnder, symbolsIn, inUse}
 use Rattle.rule.specs.Training.{rewriteAll}
 use Rattle.rule.proofs.Rewriting.{rewrite-none, gone}
-use Rattle.word.specs.Layout.{entryAt, inUse}
+use Rattle.word.specs.Layout.{entryAt}
 use Rattle.merge.specs.Merging.{changeAt}
 use Rattle.states.specs.Tracking.{withWord, Weighed}
 

@@ -11,10 +11,10 @@ use Rattle.rule.specs.Table.{Task}
 use Rattle.rule.specs.Seeding.{Entry}
 use Rattle.rule.specs.Rewriting.{bit, rewrite}
 use Rattle.rule.specs.Training.{count, rewriteAll, Choice}
-use Rattle.rule.specs.Sums.{occurs, AllUnder}
+use Rattle.rule.specs.Sums.{occurs, AllUnder, inUse}
 use Rattle.rule.proofs.Rewriting.{length-rewrite, new-occurs}
 use Rattle.rule.proofs.Counts.{below-fresh}
-use Rattle.lazy.specs.Lazy.{insert, total, Pair, pair, live, spots, allSpots, enterAll, holding, seeds, gained, wordsWith, units}
+use Rattle.lazy.specs.Lazy.{insert, total, Pair, pair, live, spots, allSpots, enterAll, holding, seeds, gained, wordsWith}
 use Rattle.lazy.specs.Sums.{allRewrites, stale, potential}
 use Rattle.lazy.specs.Invariant.{Inv}
 use Rattle.lazy.proofs.Queue.{total-insert, length-insert, enterAll-keeps, length-enterAll}
@@ -34,8 +34,8 @@ potential-again es e qu n =
     rw m (omega (arith, length-insert (live es (e .left) (e .right)) qu, stale-live es (e .left) (e .right)))
 
 -- A REWRITE COSTS A SYMBOL
-pub units-rewrite : (a b x : ℕ) (es : List Entry) → units (rewriteAll a b x es) + allRewrites a b es ≡ units es
-unfolding units rewriteAll allRewrites
+pub units-rewrite : (a b x : ℕ) (es : List Entry) → inUse (rewriteAll a b x es) + allRewrites a b es ≡ inUse es
+unfolding inUse rewriteAll allRewrites
 units-rewrite a b x [] = refl
 units-rewrite a b x (e ∷ es) = let h = units-rewrite a b x es in omega (arith, length-rewrite a b x (e .symbols))
 
@@ -112,8 +112,8 @@ unfolding spots
 spot-units s [] = omega arith
 spot-units s (t ∷ l) = let h = spot-units t l in omega arith
 
-pub spots-units : (es : List Entry) → length (allSpots es) ≤ units es
-unfolding allSpots units spots
+pub spots-units : (es : List Entry) → length (allSpots es) ≤ inUse es
+unfolding allSpots inUse spots
 spots-units [] = omega arith
 spots-units (e ∷ es) = let h = spots-units es in omega (arith, length-append (spots (e .symbols)) (allSpots es), go (e .symbols))
   where
@@ -121,7 +121,7 @@ spots-units (e ∷ es) = let h = spots-units es in omega (arith, length-append (
     go [] = omega arith
     go (s ∷ l) = omega (arith, spot-units s l)
 
-pub length-seeds : (es : List Entry) → length (seeds es) ≤ units es
+pub length-seeds : (es : List Entry) → length (seeds es) ≤ inUse es
 unfolding seeds
 length-seeds es = omega (arith, length-enterAll es (allSpots es) [], spots-units es)
 
@@ -129,14 +129,14 @@ seeds-stale : (es : List Entry) → total (stale es) (seeds es) ≡ 0
 unfolding seeds total
 seeds-stale es = stale-enterAll es (allSpots es) []
 
-pub potential-seeds : (es : List Entry) → potential es (seeds es) ≤ 5 * units es
+pub potential-seeds : (es : List Entry) → potential es (seeds es) ≤ 5 * inUse es
 unfolding potential
 potential-seeds es = omega (arith, length-seeds es, seeds-stale es)
 
 -- THE QUEUE IS NEVER LONGER than three times the symbols: its length and twice the symbols together never rise
-pub room-seeds : (es : List Entry) → length (seeds es) + 2 * units es ≤ 3 * units es
+pub room-seeds : (es : List Entry) → length (seeds es) + 2 * inUse es ≤ 3 * inUse es
 room-seeds es = omega (arith, length-seeds es)
 
 pub room-join : (t : Task) (ps : List (List ℕ)) (es : List Entry) (e : Choice) (qu : List Choice) → Inv t ps es (e ∷ qu)
-    → length (gained (length ps) (wordsWith ps es e) qu) + 2 * units (wordsWith ps es e) ≤ length qu + 2 * units es
+    → length (gained (length ps) (wordsWith ps es e) qu) + 2 * inUse (wordsWith ps es e) ≤ length qu + 2 * inUse es
 room-join t ps es e qu i = omega (arith, length-gained t ps es e qu i, units-rewrite (e .left) (e .right) (length ps) es)

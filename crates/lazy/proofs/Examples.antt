@@ -5,9 +5,10 @@ use Prim.Native.Nat.{ℕ}
 use Rattle.rule.specs.Spelling.{leads, stripPrefix, joined, measure}
 use Rattle.rule.specs.Seeding.{byteValues}
 use Rattle.rule.specs.Rewriting.{cut, out, rewrite, link, countIn}
+use Rattle.rule.specs.Sums.{inUse}
 use Rattle.rule.specs.Training.{count, rewriteAll, saving, joinedOf, within}
 use Rattle.rule.proofs.Examples.{table, any}
-use Rattle.lazy.specs.Lazy.{insert, total, entries, live, spots, allSpots, enter, enterAll, holding, seeds, gained, turn, Took, oneMore, merged, act, lazy, units, lazyTrain}
+use Rattle.lazy.specs.Lazy.{insert, total, entries, live, spots, allSpots, enter, enterAll, holding, seeds, gained, turn, Took, oneMore, merged, act, lazy, lazyTrain}
 
 -- the minimum, the length limit, the prefix, the room for merges, the pieces and the words
 pub record Case : Type 0 where
@@ -24,7 +25,7 @@ said r = r .taken ∷ flatMap (λ m. m .left ∷ m .right ∷ m .saved ∷ []) (
 
 -- what the lazy rule says of a case, with frequencies 1
 unfoldable pub answer : Case → List ℕ
-unfolding flatMap said leads stripPrefix joined measure byteValues cut out rewrite link countIn count rewriteAll saving joinedOf within insert total entries live spots allSpots enter enterAll holding seeds gained turn oneMore merged act lazy units lazyTrain
+unfolding flatMap said leads stripPrefix joined measure byteValues cut out rewrite link countIn count rewriteAll saving joinedOf within insert total entries live spots allSpots enter enterAll holding seeds gained turn oneMore merged act lazy inUse lazyTrain
 answer c =
     said (lazyTrain (table [] [] (c .prefix) 0 300 (c .least) (c .limit)) (c .room) (c .pieces) (map (λ w. record { frequency = 1; symbols = w }) (c .words)))
 

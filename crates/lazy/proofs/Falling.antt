@@ -12,13 +12,13 @@ use Rattle.rule.specs.Seeding.{Entry}
 use Rattle.rule.specs.Rewriting.{rewrites, countIn}
 use Rattle.rule.specs.Training.{count, rewriteAll, saving, within, Choice, choose, Merge, trainFrom}
 use Rattle.rule.specs.Demand.{Chosen}
-use Rattle.rule.specs.Sums.{AllUnder}
+use Rattle.rule.specs.Sums.{AllUnder, inUse}
 use Rattle.runs.proofs.Parts.{same-or-not, below-or-not}
 use Rattle.rule.proofs.Rewriting.{rewrites-some}
 use Rattle.rule.proofs.Counts.{rewrites-count, counts-fall, counted-below, counts-new-left, counts-new-right}
 use Rattle.rule.proofs.Choosing.{choose-spent, choose-chosen}
 use Rattle.rule.proofs.Demand.{train-next, train-spent}
-use Rattle.lazy.specs.Lazy.{live, piecesWith, wordsWith, units}
+use Rattle.lazy.specs.Lazy.{live, piecesWith, wordsWith}
 use Rattle.lazy.specs.Sums.{allRewrites, FallsFrom}
 use Rattle.lazy.proofs.Old.{sound-with, within-with}
 use Rattle.lazy.proofs.Bound.{units-rewrite}
@@ -88,15 +88,15 @@ rewrites-any a b (e ∷ es) h = go (countIn a b (e .symbols)) refl (rewrites-any
     go zero z f k = omega (arith, f (omega (arith, mul-zero (e .frequency))))
     go (suc c) z f k = omega (arith, rewrites-some a b (e .symbols) (omega arith))
 
-pub merge-shrinks : (a b x : ℕ) (es : List Entry) → 1 ≤ count a b es → units (rewriteAll a b x es) < units es
+pub merge-shrinks : (a b x : ℕ) (es : List Entry) → 1 ≤ count a b es → inUse (rewriteAll a b x es) < inUse es
 merge-shrinks a b x es h = omega (arith, units-rewrite a b x es, rewrites-any a b es h)
 
-pub merges-units : (t : Task) (n : ℕ) (ps : List (List ℕ)) (es : List Entry) → length (trainFrom t n ps es) ≤ units es
+pub merges-units : (t : Task) (n : ℕ) (ps : List (List ℕ)) (es : List Entry) → length (trainFrom t n ps es) ≤ inUse es
 unfolding trainFrom live
 merges-units t zero ps es = omega arith
-merges-units t (suc n) ps es = train-case t n ps es (λ ms. length ms ≤ units es) (omega arith) (λ a b d. go a b d (merges-units t n))
+merges-units t (suc n) ps es = train-case t n ps es (λ ms. length ms ≤ inUse es) (omega arith) (λ a b d. go a b d (merges-units t n))
   where
-    go : (a b : ℕ) → Chosen t ps es a b → ((ps : List (List ℕ)) (es : List Entry) → length (trainFrom t n ps es) ≤ units es) → length (trainFrom t (suc n) ps es) ≤ units es
+    go : (a b : ℕ) → Chosen t ps es a b → ((ps : List (List ℕ)) (es : List Entry) → length (trainFrom t n ps es) ≤ inUse es) → length (trainFrom t (suc n) ps es) ≤ inUse es
     go a b d f =
         let m = merge-shrinks a b (length ps) es (d .isOpen .occurs) in
         let k = f (piecesWith t ps (live es a b)) (wordsWith ps es (live es a b)) in

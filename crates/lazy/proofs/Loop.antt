@@ -8,8 +8,8 @@ use lib.ListN.{length}
 use Rattle.rule.specs.Table.{Task}
 use Rattle.rule.specs.Seeding.{Entry}
 use Rattle.rule.specs.Training.{count, within, Choice, Merge, mergeOf}
-use Rattle.rule.specs.Sums.{AllUnder}
-use Rattle.lazy.specs.Lazy.{insert, live, seeds, gained, Took, piecesWith, wordsWith, lazy, units, lazyTrain}
+use Rattle.rule.specs.Sums.{AllUnder, inUse}
+use Rattle.lazy.specs.Lazy.{insert, live, seeds, gained, Took, piecesWith, wordsWith, lazy, lazyTrain}
 use Rattle.lazy.specs.Loop.{grown, Loop}
 use Rattle.lazy.proofs.Order.{differ}
 use Rattle.lazy.proofs.Queue.{length-insert}
@@ -18,7 +18,7 @@ use Rattle.lazy.proofs.Bound.{potential-drop, potential-again, potentia
 use Rattle.lazy.proofs.Steps.{grown-start, step-again, step-gone, step-long, step-low, step-join, step-empty, step-full}
 
 pub loop-start : (t : Task) (n : ℕ) (ps : List (List ℕ)) (es : List Entry) → AllUnder (length ps) es
-    → Loop t (units es) (lazyTrain t n ps es) (5 * units es) n ps es (seeds es) [] 0
+    → Loop t (inUse es) (lazyTrain t n ps es) (5 * inUse es) n ps es (seeds es) [] 0
 unfolding lazyTrain
 loop-start t n ps es h = record { is = grown-start (lazyTrain t n ps es); inv = inv-seeds t ps es h; fuel = potential-seeds es; few = room-seeds es }
 

@@ -10,9 +10,9 @@ use borrow.Author.Tests.{eqb-true, eqb-false, leb-true, leb-false, ltb-true, ltb
 use Rattle.rule.specs.Table.{Task}
 use Rattle.rule.specs.Seeding.{Entry}
 use Rattle.rule.specs.Training.{count, within, Choice, Merge, mergeOf, trainFrom}
-use Rattle.rule.specs.Sums.{AllUnder}
+use Rattle.rule.specs.Sums.{AllUnder, inUse}
 use Rattle.rule.proofs.Demand.{train-next, train-spent}
-use Rattle.lazy.specs.Lazy.{insert, live, seeds, gained, Turn, again, gone, low, long, join, turn, oneMore, merged, piecesWith, wordsWith, act, lazy, units, lazyTrain}
+use Rattle.lazy.specs.Lazy.{insert, live, seeds, gained, Turn, again, gone, low, long, join, turn, oneMore, merged, piecesWith, wordsWith, act, lazy, lazyTrain}
 use Rattle.lazy.specs.Sums.{potential}
 use Rattle.lazy.specs.Invariant.{Inv}
 use Rattle.lazy.proofs.Order.{differ}
@@ -140,13 +140,13 @@ module _ (t : Task) (n : ℕ) (ps : List (List ℕ)) (es : List Entry) (sound : 
   -- the lazy rule makes the merges of training
   pub lazy-same : lazyTrain t n ps es .merges ≡ trainFrom t n ps es
   unfolding lazyTrain
-  lazy-same = lazy-trains t (5 * units es) n ps es (seeds es) (inv-seeds t ps es sound) (potential-seeds es)
+  lazy-same = lazy-trains t (5 * inUse es) n ps es (seeds es) (inv-seeds t ps es sound) (potential-seeds es)
 
   -- five entries for each symbol are enough: with more, nothing changes
-  pub lazy-any-fuel : (k : ℕ) → 5 * units es ≤ k → lazy t k n ps es (seeds es) ≡ lazyTrain t n ps es
+  pub lazy-any-fuel : (k : ℕ) → 5 * inUse es ≤ k → lazy t k n ps es (seeds es) ≡ lazyTrain t n ps es
   unfolding lazyTrain
-  lazy-any-fuel k l = let p = potential-seeds es in lazy-fuel t k (5 * units es) n ps es (seeds es) (inv-seeds t ps es sound) (omega arith) p
+  lazy-any-fuel k l = let p = potential-seeds es in lazy-fuel t k (5 * inUse es) n ps es (seeds es) (inv-seeds t ps es sound) (omega arith) p
 
   -- and no run takes more, whatever its fuel
-  pub lazy-bound : (k : ℕ) → lazy t k n ps es (seeds es) .taken ≤ 5 * units es
+  pub lazy-bound : (k : ℕ) → lazy t k n ps es (seeds es) .taken ≤ 5 * inUse es
   lazy-bound k = omega (arith, lazy-taken t k n ps es (seeds es) (inv-seeds t ps es sound), potential-seeds es)

@@ -9,22 +9,23 @@ use Rattle.rule.specs.Table as table
 use Rattle.rule.specs.Spelling.{decorate}
 use Rattle.rule.specs.Seeding.{Entry, decorated, numberOf, keep, keptWith, kept}
 use Rattle.rule.specs.Seeding as seeding
+use Rattle.rule.specs.Sums.{inUse}
 use Rattle.rule.specs.Training.{trained}
 use Rattle.rule.proofs.Spelling.{length-decorate}
 use Rattle.rule.proofs.Seeding.{kept-below}
-use Rattle.lazy.specs.Lazy.{seeds, lazy, units, lazyTrain}
+use Rattle.lazy.specs.Lazy.{seeds, lazy, lazyTrain}
 use Rattle.lazy.proofs.Same.{lazy-same, lazy-bound}
 
--- the kept words have no more symbols than the table has units
-keep-units : (f : ℕ) (ss : List ℕ) (rest : List Entry) → units (keep f ss rest) ≤ length ss + units rest
-unfolding units keep
+-- the kept words have no more symbols than the table has inUse
+keep-units : (f : ℕ) (ss : List ℕ) (rest : List Entry) → inUse (keep f ss rest) ≤ length ss + inUse rest
+unfolding inUse keep
 keep-units f [] rest = omega arith
 keep-units f (s ∷ []) rest = omega arith
 keep-units f (s ∷ s₁ ∷ ss) rest = omega arith
 
 kept-with-units : (ps : List (List ℕ)) (p s : List ℕ) (fs : List ℕ) (us : List (List (List ℕ)))
-    → units (keptWith ps fs (map (decorate p s) us)) ≤ table.total (map length us)
-unfolding keptWith table.total units
+    → inUse (keptWith ps fs (map (decorate p s) us)) ≤ table.total (map length us)
+unfolding keptWith table.total inUse
 kept-with-units ps p s [] us = omega arith
 kept-with-units ps p s (f ∷ fs) [] = omega arith
 kept-with-units ps p s (f ∷ fs) (u ∷ us) =
@@ -32,7 +33,7 @@ kept-with-units ps p s (f ∷ fs) (u ∷ us) =
     let l : length (map (numberOf ps) (decorate p s u)) ≡ length u = length-map (decorate p s u) (numberOf ps) ∙ length-decorate p s u in
     omega (arith, keep-units f (map (numberOf ps) (decorate p s u)) (keptWith ps fs (map (decorate p s) us)))
 
-pub kept-units : (t : Task) → units (kept t) ≤ U t
+pub kept-units : (t : Task) → inUse (kept t) ≤ U t
 unfolding kept decorated U
 kept-units t = kept-with-units (seeding.seeds t) (t .prefix) (t .suffix) (frequencies t) (wordUnits t)
 

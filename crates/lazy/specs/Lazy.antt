@@ -8,6 +8,7 @@ use lib.ListN.{length}
 use Rattle.rule.specs.Table.{Task}
 use Rattle.rule.specs.Seeding.{Entry}
 use Rattle.rule.specs.Rewriting.{bit, isPair}
+use Rattle.rule.specs.Sums.{inUse}
 use Rattle.rule.specs.Training.{count, rewriteAll, joinedOf, within, Choice, better, Merge, mergeOf}
 
 -- THE QUEUE: a list of entries in the order of choice, the first of them the next to be taken. So two queues of the same entries are equal, whatever
@@ -129,11 +130,6 @@ lazy t (suc k) zero ps es qu = record { merges = []; taken = 0 }
 lazy t (suc k) (suc n) ps es [] = record { merges = []; taken = 0 }
 lazy t (suc k) (suc n) ps es (e ∷ qu) = act (turn t ps es e) t n ps es e qu (lazy t k)
 
--- the symbols of all kept words, each word once
-unfoldable pub units : List Entry → ℕ
-units [] = 0
-units (e ∷ es) = length (e .symbols) + units es
-
 -- from pieces and words, with as many entries as are ever needed: five for each symbol
 unfoldable pub lazyTrain : Task → ℕ → List (List ℕ) → List Entry → Took
-lazyTrain t n ps es = lazy t (5 * units es) n ps es (seeds es)
+lazyTrain t n ps es = lazy t (5 * inUse es) n ps es (seeds es)

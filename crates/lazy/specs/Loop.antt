@@ -5,8 +5,9 @@ use Prim.Native.Nat.{ℕ, _+_, _*_, _≤_}
 use lib.ListN.{length}
 use Rattle.rule.specs.Table.{Task}
 use Rattle.rule.specs.Seeding.{Entry}
+use Rattle.rule.specs.Sums.{inUse}
 use Rattle.rule.specs.Training.{Choice, Merge}
-use Rattle.lazy.specs.Lazy.{Took, lazy, units}
+use Rattle.lazy.specs.Lazy.{Took, lazy}
 use Rattle.lazy.specs.Sums.{potential}
 use Rattle.lazy.specs.Invariant.{Inv}
 
@@ -20,4 +21,4 @@ pub record Loop (t : Task) (u : ℕ) (whole : Took) (k n : ℕ) (ps : List (List
   pub is : whole ≡ grown ms c (lazy t k n ps es qu)
   pub inv : Inv t ps es qu
   pub fuel : potential es qu ≤ k
-  pub few : length qu + 2 * units es ≤ 3 * u
+  pub few : length qu + 2 * inUse es ≤ 3 * u

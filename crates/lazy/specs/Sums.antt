@@ -7,8 +7,9 @@ use lib.ListN.{length}
 use Rattle.rule.specs.Table.{Task}
 use Rattle.rule.specs.Seeding.{Entry}
 use Rattle.rule.specs.Rewriting.{Report, rewrites, reports}
+use Rattle.rule.specs.Sums.{inUse}
 use Rattle.rule.specs.Training.{count, Choice, Merge}
-use Rattle.lazy.specs.Lazy.{total, piecesWith, wordsWith, units}
+use Rattle.lazy.specs.Lazy.{total, piecesWith, wordsWith}
 
 -- the reports of a merge, of all words
 unfoldable pub allReports : ℕ → ℕ → ℕ → List Entry → List Report
@@ -31,7 +32,7 @@ stale es f = cond (eqb (count (f .left) (f .right) es) (f .times)) 0 1
 
 -- THE POTENTIAL, of which each entry taken costs 1: a stale entry is taken twice, and a rewrite can make two stale and enter two
 unfoldable pub potential : List Entry → List Choice → ℕ
-potential es qu = length qu + total (stale es) qu + 4 * units es
+potential es qu = length qu + total (stale es) qu + 4 * inUse es
 
 -- the words after some merges, one after the other
 unfoldable pub wordsUpon : Task → List (List ℕ) → List Entry → List Choice → List Entry

@@ -7,9 +7,10 @@ use lib.ListN.{length}
 use Rattle.runs.specs.Parts.{nth}
 use Rattle.rule.specs.Rewriting.{rewrite, rewrites}
 use Rattle.rule.specs.Seeding.{Entry}
+use Rattle.rule.specs.Sums.{inUse}
 use Rattle.rule.specs.Training.{rewriteAll}
 use Rattle.rule.proofs.Rewriting.{length-rewrite}
-use Rattle.word.specs.Layout.{symbolIn, line, lines, bySymbols, entryAt, inUse}
+use Rattle.word.specs.Layout.{symbolIn, line, lines, bySymbols, entryAt}
 use Rattle.word.proofs.Views.{lines-same}
 use Rattle.merge.specs.Merging.{changeAt, rewriteFirst}
 

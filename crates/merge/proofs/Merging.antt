@@ -9,9 +9,10 @@ use Rattle.runs.specs.Parts.{nth, part, Kept}
 use Rattle.runs.proofs.Parts.{same-or-not, below-or-not, length-part}
 use Rattle.runs.proofs.Frames.{kept-none, kept-then, kept-wide}
 use Rattle.rule.specs.Rewriting.{rewrite, rewrites}
+use Rattle.rule.specs.Sums.{inUse}
 use Rattle.rule.specs.Training.{rewriteAll}
 use Rattle.rule.proofs.Rewriting.{length-rewrite}
-use Rattle.word.specs.Layout.{symbolIn, symbolsAt, endAt, line, lines, corpus, entryAt, inUse, Words, Numbers}
+use Rattle.word.specs.Layout.{symbolIn, symbolsAt, endAt, line, lines, corpus, entryAt, Words, Numbers}
 use Rattle.word.specs.Pushing.{Placed}
 use Rattle.word.specs.declared.WordSet.{WordSet}
 use Rattle.word.proofs.Views.{symbols-length, corpus-length, line-same}

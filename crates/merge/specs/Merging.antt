@@ -5,8 +5,9 @@ use Prim.Native.Nat.{ℕ, zero, suc, _+_, _-_}
 use Rattle.runs.specs.Parts.{nth, Kept}
 use Rattle.rule.specs.Rewriting.{rewrite, rewrites}
 use Rattle.rule.specs.Seeding.{Entry}
+use Rattle.rule.specs.Sums.{inUse}
 use Rattle.rule.specs.Training.{rewriteAll}
-use Rattle.word.specs.Layout.{endAt, lines, corpus, entryAt, inUse, Words, Numbers}
+use Rattle.word.specs.Layout.{endAt, lines, corpus, entryAt, Words, Numbers}
 use Rattle.word.specs.declared.WordSet.{WordSet}
 use Rattle.merge.specs.Cells.{rewriteCells}
 use Rattle.merge.specs.declared.Merged.{Merged}

@@ -8,11 +8,12 @@ use Rattle.runs.proofs.Frames.{kept-wide}
 use Rattle.index.specs.Index.{SameIndex}
 use Rattle.index.proofs.Clients.{index-kept}
 use Rattle.arena.specs.Arena.{field, taken, free, Live, CanPut, FieldPut, Within}
+use Rattle.arena.proofs.Laws.{field-low}
 use Rattle.states.specs.State.{State}
 use Rattle.pairs.specs.View.{arenaAt, listsAt, behind, recordOf, keyIn, many, place, capacity, wordsOf, recordState, state, top, made, spent}
 use Rattle.pairs.specs.Pairs.{Run, Long, Pairing, Has, Updated}
 use Rattle.pairs.specs.declared.Pairs.{Pairs}
-use Rattle.pairs.proofs.Moves.{Moved, state-has, field-low, long-fits, words-same, credit-same, moved-state, moved-spent, moved-ok}
+use Rattle.pairs.proofs.Moves.{Moved, state-has, long-fits, words-same, credit-same, moved-state, moved-spent, moved-ok}
 
 -- a field of a live record can be read
 pub can-get : (p : Pairs) (r f : ℕ) (cs : List ℕ) → Pairing p cs → 0 < keyIn p cs r → f < 8 → Within (arenaAt p) (p .most) r f cs

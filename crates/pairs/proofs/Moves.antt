@@ -10,10 +10,10 @@ use lib.Dec.{ltb}
 use borrow.Author.Tests.{ltb-true, ltb-false}
 use lib.ListN.{length}
 use Rattle.runs.specs.Parts.{nth, part}
-use Rattle.runs.proofs.Parts.{same-or-not, below-or-not, part-ext}
+use Rattle.runs.proofs.Parts.{same-or-not, part-ext}
 use Rattle.index.specs.Index.{Index, vacant, idle}
 use Rattle.arena.specs.Arena.{Arena, field, taken, free}
-use Rattle.arena.proofs.Laws.{field-of, field-none}
+use Rattle.arena.proofs.Laws.{field-of, field-low}
 use Rattle.states.specs.State.{blank}
 use Rattle.pairs.specs.View.{arenaAt, dataAt, behind, recordOf, keyIn, many, place, capacity, wordsOf, recordState, state, top, made, sum, credit, spent}
 use Rattle.pairs.specs.Pairs.{Tied, Run, Long, Pairing}
@@ -58,10 +58,6 @@ top-most p cs ok = omega (arith, ok .cells, ok .bound)
 -- a long list lies in the room
 pub long-fits : (p : Pairs) (cs : List ℕ) (r : ℕ) → Pairing p cs → Long p cs r → dataAt p + place p cs r + many p cs r ≤ behind p
 long-fits p cs r ok l = let u = ok .runs r l in omega (arith, u .fits, u .below, top-most p cs ok)
-
--- a record with a field above 0 was taken
-pub field-low : (base : ℕ) (cs : List ℕ) (r f : ℕ) → 0 < field base cs r f → r < taken base cs
-field-low base cs r f h = below-or-not r (taken base cs) (λ l. l) (λ l. absurd (omega (arith, h, field-none base cs r f l)))
 
 -- A RECORD whose fields are the same, and the cells of its list
 module _ (p : Pairs) (was is : List ℕ) (r : ℕ) (long : length is ≡ length was) (room : behind p ≤ length was) (low : r < p .most) where

@@ -27,6 +27,7 @@ pub record Long (p : Pairs) (cs : List ℕ) (r : ℕ) : Type 0 where
   pub live : 0 < keyIn p cs r
   pub long : 4 < many p cs r
 
+-- THE INVARIANT: a key that is found has its record, and index, records and lists take no more than was asked for (`even`, `few`, `slots`, `cells`)
 pub record Pairing (p : Pairs) (cs : List ℕ) : Type 0 where
   pub ix : Index (p .base) (p .cap) cs
   pub ar : Arena (arenaAt p) (p .most) cs

@@ -9,6 +9,7 @@ use native.Mathlib.Omega.{arith}
 use lib.Dec.{eqb}
 use lib.ListN.{length}
 use borrow.Author.Tests.{ne-eqb}
+use Rattle.runs.specs.Parts.{nth}
 use Rattle.rule.specs.Rewriting.{bit, isPair, Span, one, hit, cut, src, out, rewrite, rewrites, reports, link, countIn}
 use Rattle.rule.specs.Seeding.{Entry}
 use Rattle.rule.specs.Training.{count, rewriteAll}
@@ -93,6 +94,24 @@ count-gone a b x ha hb [] = refl
 count-gone a b x ha hb (e ∷ es) =
     let h = count-gone a b x ha hb es in
     rw (gone a b x ha hb (e .symbols)) (omega (arith, mul-zero (e .frequency)))
+
+-- A BOUND OF ALL SYMBOLS, at a place, and a higher one
+pub under-nth : (m : ℕ) (l : List ℕ) (j : ℕ) → Under m l → j < length l → nth l j < m
+unfolding Under nth
+under-nth m [] j u h = absurd (omega arith)
+under-nth m (s ∷ l) zero u h = u .0
+under-nth m (s ∷ l) (suc j) u h = under-nth m l j (u .1) (omega arith)
+
+module _ (m n : ℕ) (h : m ≤ n) where
+  under-more : (l : List ℕ) → Under m l → Under n l
+  unfolding Under
+  under-more [] u = tt
+  under-more (s ∷ l) u = let k = u .0 in (omega arith, under-more l (u .1))
+
+  pub all-under-more : (es : List Entry) → AllUnder m es → AllUnder n es
+  unfolding AllUnder
+  all-under-more [] u = tt
+  all-under-more (e ∷ es) u = (under-more (e .symbols) (u .0), all-under-more es (u .1))
 
 -- NUMBERS IN USE: where every symbol is below n, n is new
 pub below-fresh : (n : ℕ) (l : List ℕ) → Under n l → occurs n l ≡ 0

@@ -37,7 +37,12 @@ unfoldable pub symbolsIn : List Entry → ℕ
 symbolsIn [] = 0
 symbolsIn (e ∷ es) = e .frequency * length (e .symbols) + symbolsIn es
 
--- the rewrites of (a,b)
+-- and each word once: how many symbols they have
+unfoldable pub inUse : List Entry → ℕ
+inUse [] = 0
+inUse (e ∷ es) = length (e .symbols) + inUse es
+
+-- each times its frequency again: the rewrites of (a,b)
 unfoldable pub rewritesIn : ℕ → ℕ → List Entry → ℕ
 rewritesIn a b [] = 0
 rewritesIn a b (e ∷ es) = e .frequency * rewrites a b (e .symbols) + rewritesIn a b es

@@ -1,5 +1,5 @@
 -- The kept words of a table that passed: their frequencies are at least 1, and they have no more symbols than the table has units. Assumes nothing.
-use mathlib.Core.Path.{_≡_, sym, ap, _∙_}
+use mathlib.Core.Path.{_≡_, ap, _∙_}
 use mathlib.Core.Bool.{false}
 use mathlib.Core.List.{List, [], _∷_, map}
 use Prim.Native.Nat.{ℕ, zero, suc, _≤_}
@@ -9,19 +9,19 @@ use borrow.Author.Tests.{eqb-false}
 use Rattle.rule.specs.Table.{Task, U, frequencies}
 use Rattle.rule.specs.Seeding.{Entry, decorated, seeds, numberOf, keep, keptWith, kept}
 use Rattle.rule.specs.Refusals.{noFrequency, zeroFrequency}
+use Rattle.rule.specs.Sums.{inUse}
 use Rattle.rule.proofs.Places.{None, none}
 use Rattle.lazy.proofs.Table.{kept-units}
-use Rattle.word.specs.Layout.{entryAt, inUse}
+use Rattle.word.specs.Layout.{entryAt}
 use Rattle.word.specs.declared.WordSet.{WordSet}
 use Rattle.states.specs.Tracking.{Weighed}
 use Rattle.seeding.specs.Seeding.{Sown}
-use Rattle.engine.proofs.Sums.{units-in-use}
 
 -- THE SYMBOLS IN USE
 
 pub sown-live : (t : Task) (n : ℕ) (xs ys cs vs ws : List ℕ) (c u : ℕ) (w : WordSet) → Sown t n xs ys cs vs ws c u w → n ≡ U t → w .live ≤ n
 sown-live t n xs ys cs vs ws c u w s e =
-    let used = s .words .used ∙ ap inUse (s .view) ∙ sym (units-in-use (kept t)) in
+    let used = s .words .used ∙ ap inUse (s .view) in
     omega (arith, used, kept-units t, e)
 
 -- EVERY FREQUENCY IS AT LEAST 1

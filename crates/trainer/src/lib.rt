@@ -2,7 +2,7 @@
 // in every room.
 //
 // Rows 1 to 7 are judged before any room is written. After that the output rooms start at 0, so that
-// what lies beyond the answer is 0, and a refusal sets all of them and the work room to 0 again.
+// what lies beyond the answer is 0, and a refusal sets all of them to 0 again. The work room is 0 in the end.
 ghost use mathlib.Core.Path.{_≡_};
 ghost use Prim.Native.Nat.{_≤_};
 ghost use Rattle.numbers.specs.Cells.{cells};

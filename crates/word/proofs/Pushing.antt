@@ -12,7 +12,8 @@ use Rattle.runs.specs.Parts.{nth, put, part, Kept}
 use Rattle.runs.proofs.Parts.{below-or-not, length-put, nth-put, nth-put-other, part-ext}
 use Rattle.runs.proofs.Frames.{kept-put, kept-part}
 use Rattle.rule.specs.Seeding.{keep}
-use Rattle.word.specs.Layout.{symbolIn, symbolsAt, endAt, line, bySymbols, corpus, inUse, SameIn, InLine, Words}
+use Rattle.rule.specs.Sums.{inUse}
+use Rattle.word.specs.Layout.{symbolIn, symbolsAt, endAt, line, bySymbols, corpus, SameIn, InLine, Words}
 use Rattle.word.specs.Pushing.{longer, pushed, pushedCells, Takes, Opened, Added, Pushed}
 use Rattle.word.specs.declared.WordSet.{WordSet}
 use Rattle.word.proofs.Views.{symbol-alone, symbols-length, symbols-more, symbols-same, corpus-more, inUse-append}

@@ -9,8 +9,8 @@ use lib.Seq.{drop-cons}
 use Rattle.runs.specs.Parts.{nth, part}
 use Rattle.runs.proofs.Parts.{length-part, nth-part, part-none, part-more, part-cons, part-part, part-ext}
 use Rattle.rule.specs.Seeding.{Entry}
-use Rattle.rule.specs.Sums.{Under, AllUnder}
-use Rattle.word.specs.Layout.{symbolIn, symbolsAt, endAt, line, lines, bySymbols, corpus, entryAt, inUse}
+use Rattle.rule.specs.Sums.{Under, AllUnder, inUse}
+use Rattle.word.specs.Layout.{symbolIn, symbolsAt, endAt, line, lines, bySymbols, corpus, entryAt}
 
 -- SYMBOLS
 

@@ -9,6 +9,7 @@ use lib.Dec.{ltb}
 use lib.ListN.{length, getD}
 use Rattle.runs.specs.Parts.{nth, part}
 use Rattle.rule.specs.Seeding.{Entry}
+use Rattle.rule.specs.Sums.{inUse}
 use Rattle.word.specs.declared.WordSet.{WordSet}
 
 -- A SYMBOL'S CELL: its low 32 bits are the symbol; the high ones are room for a number beside it, 0 when the symbol is pushed
@@ -42,11 +43,6 @@ corpus cs starts n = map bySymbols (lines cs starts n)
 -- word k of some words, and past their end one that says nothing
 unfoldable pub entryAt : List Entry → ℕ → Entry
 entryAt es k = getD es k (record { frequency = 0; symbols = [] })
-
--- how many symbols some words have
-unfoldable pub inUse : List Entry → ℕ
-inUse [] = 0
-inUse (e ∷ es) = length (e .symbols) + inUse es
 
 -- the cells between lo and hi are as they were
 abbrev pub SameIn : ℕ → ℕ → List ℕ → List ℕ → Type 0
