@@ -1,6 +1,6 @@
 -- For whoever goes on with the runs: where the answer is a table, their fronts hold the words and the frequencies of the text's lines. Assumes nothing.
 use mathlib.Core.Path.{_≡_, refl, sym, ap}
-use mathlib.Core.Bool.{Bool, true, false, cond}
+use mathlib.Core.Bool.{Bool, true, false, cond, and-eq-true-iff}
 use mathlib.Core.List.{List, [], _∷_, _++_, map, flatMap, append-nil}
 use Prim.Native.Nat.{ℕ, _+_, _-_, _*_, _^_, _<_, _≤_}
 use native.Mathlib.Nat.{pow-succ', pow-le-pow-right, mul-le-mul-right}
@@ -20,7 +20,7 @@ use Rattle.lines.specs.declared.Parsed.the-variants.{NoRoom, TooLong, Ba
 use Rattle.lines.specs.Lines.{lines, isDigit, digits, decimal, wordOf, digitsOf, frequencyOf, wellFormed, tooLong, badAmong, firstBad}
 use Rattle.lines.specs.Table.{wordBytes, endBytes, frequencyBytes, noRoom, parsed, leaves, Read, Told}
 use Rattle.lines.proofs.Cuts.{good-first}
-use Rattle.lines.proofs.Judged.{and-both, well-few}
+use Rattle.lines.proofs.Judged.{well-few}
 use Rattle.lines.proofs.Writing.{length-endBytes, length-frequencyBytes, words-short}
 use Rattle.lines.proofs.Answers.{has-room, not-long}
 
@@ -53,7 +53,7 @@ module _ (ls : List (List ℕ)) (h : length (wordBytes ls) ≤ 4294967295) where
 
 digit-top : (b : ℕ) → isDigit b ≡ true → b ≤ 57
 unfolding isDigit
-digit-top b e = leb-true b 57 (and-both (leb 48 b) (leb b 57) e .1)
+digit-top b e = leb-true b 57 (and-eq-true-iff (leb 48 b) (leb b 57) .0 e .1)
 
 decimal-lt : (v : ℕ) (xs : List ℕ) → decimal v (digits xs) < (v + 1) * 10 ^ length (digits xs)
 unfolding decimal digits

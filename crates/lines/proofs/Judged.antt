@@ -1,6 +1,6 @@
 -- The laws of a line judged: each test of the code against the form of a line. Assumes nothing.
 use mathlib.Core.Path.{_≡_, refl, sym, ap, _∙_}
-use mathlib.Core.Bool.{Bool, true, false, cond, _&&_}
+use mathlib.Core.Bool.{Bool, true, false, cond, and-eq-true-iff}
 use mathlib.Core.List.{List, [], _∷_, _++_}
 use Prim.Native.Nat.{ℕ, suc, _+_, _<_, _≤_}
 use native.Mathlib.Omega.{arith}
@@ -55,16 +55,12 @@ record Good (line : List ℕ) : Type 0 where
   pub few : length (digitsOf line) ≤ 18
   pub is : line ≡ wordOf line ++ (32 ∷ (digitsOf line ++ (10 ∷ [])))
 
-pub and-both : (a b : Bool) → (a && b) ≡ true → (a ≡ true) × (b ≡ true)
-and-both true b e = (refl, e)
-and-both false b e = let z : _≡_ {A = ℕ} 0 1 = cc in absurd (omega arith)
-
 good : (line : List ℕ) → wellFormed line ≡ true → Good line
 unfolding wellFormed
 good line e =
-    let a = and-both _ _ e in
-    let b = and-both _ _ (a .1) in
-    let d = and-both _ _ (b .1) in
+    let a = and-eq-true-iff _ _ .0 e in
+    let b = and-eq-true-iff _ _ .0 (a .1) in
+    let d = and-eq-true-iff _ _ .0 (b .1) in
     record { word = leb-true 1 _ (a .0); some = leb-true 1 _ (b .0); few = leb-true _ 18 (d .0); is = same-true _ _ (d .1) }
 
 well : (line : List ℕ) → Good line → wellFormed line ≡ true

@@ -141,7 +141,7 @@ named-head c (a ∷ r) h b =
     (λ e. named-char (char-len (a ∷ r) (ltb-true 0 (charLen (a ∷ r)) (and-eq-true-iff c (ltb 0 (charLen (a ∷ r))) .0 e .1))))
     (λ e. named-byte a (b 0))
 
-drop-bytes : (k : ℕ) (w : List ℕ) → Bytes w → Bytes (drop k w)
+pub drop-bytes : (k : ℕ) (w : List ℕ) → Bytes w → Bytes (drop k w)
 unfolding nth
 drop-bytes k w b j = rw (getD-drop k w j 0) (b (k + j))
 

@@ -1,12 +1,11 @@
 -- A fine answer: exactly when none of the seven rows holds; and what the later stages take from it. Assumes nothing.
 use mathlib.Core.Path.{_≡_, refl}
-use mathlib.Core.Bool.{Bool, true, false, cond, _&&_}
+use mathlib.Core.Bool.{Bool, true, false, cond}
 use mathlib.Core.List.{List, [], _∷_, map}
 use Prim.Native.Nat.{ℕ, _+_, _-_, _*_, _^_, _≤_, _<_}
 use native.Mathlib.Omega.{arith}
-use lib.Dec.{leb}
 use lib.ListN.{length}
-use borrow.Author.Tests.{ltb-false, leb-true, leb-false, eqb-true}
+use borrow.Author.Tests.{ltb-false, leb-false, eqb-true}
 use Rattle.runs.specs.Parts.{part}
 use Rattle.runs.proofs.Parts.{part-short}
 use Rattle.numbers.specs.Little.{numbers}
@@ -18,6 +17,7 @@ use Rattle.rule.specs.Refusals.{noFrequency, zeroFrequency, misplaced, tooHeavy
 use Rattle.error.specs.declared.TrainError.{TrainError}
 use Rattle.error.specs.declared.TrainError.the-variants.{BadShape, TooMany, EmptyCorpus, ZeroFrequency, OutOfOrder, TooHeavy, WorkRoom}
 use Rattle.vocab.specs.Places.{numbersFrom}
+use Rattle.vocab.proofs.Shaped.{risen-cons}
 use Rattle.table.specs.declared.Judged.{Judged}
 use Rattle.table.specs.declared.Judged.the-variants.{Fine, Refused}
 use Rattle.table.specs.Weighing.{unitCount}
@@ -40,19 +40,11 @@ same-units m u h = cc
 
 -- UNITS ARE NO MORE THAN BYTES
 
-risen : (n from e : ℕ) (es : List ℕ) → riseTo n from (e ∷ es) ≡ true → (from ≤ e) × (riseTo n e es ≡ true)
-unfolding riseTo
-risen n from e es h = go (leb from e) refl h
-  where
-    go : (b : Bool) → leb from e ≡ b → (b && riseTo n e es) ≡ true → (from ≤ e) × (riseTo n e es ≡ true)
-    go true q k = (leb-true from e q, k)
-    go false q k = let z : _≡_ {A = ℕ} 0 1 = cc in absurd (omega arith)
-
 units-bound : (seeding : ℕ) (ws : List ℕ) (n from : ℕ) (es : List ℕ) → riseTo n from es ≡ true → total (map length (map (units seeding) (parts ws from es))) + from ≤ n
 unfolding parts total riseTo units
 units-bound seeding ws n from [] h = omega (arith, eqb-true from n h)
 units-bound seeding ws n from (e ∷ es) h =
-    let k = risen n from e es h in
+    let k = risen-cons n from e es h in
     omega (arith, k .0, units-bound seeding ws n e es (k .1), seeded-few (chars seeding) (part from (e - from) ws), part-short from (e - from) ws)
 
 module _ (t : Task) (r : Rooms) where

@@ -88,7 +88,7 @@ module _ (ws es fs al ae p s : List ℕ) (seeding size least limit : ℕ) where
   abbrev t : Task
   t = taskOf ws es fs al ae p s seeding size least limit
 
-  pub can-seed : (units : ℕ) (work : List ℕ) → CanTrain (taskOf ws es fs al ae p s seeding size least limit) units work → CanSeed (table ws es fs al ae p s seeding) units work
+  pub can-seed : (units : ℕ) (work : List ℕ) → CanTrain t units work → CanSeed (table ws es fs al ae p s seeding) units work
   unfolding table A U wordUnits
   can-seed units work c =
       let g = c .seeds in
@@ -106,44 +106,47 @@ module _ (ws es fs al ae p s : List ℕ) (seeding size least limit : ℕ) where
         room = g .room;
       }
 
-  same-seeds : seeds (table ws es fs al ae p s seeding) ≡ seeds (taskOf ws es fs al ae p s seeding size least limit)
+  same-seeds : seeds (table ws es fs al ae p s seeding) ≡ seeds t
   unfolding table seeds decorated alphabet wordUnits
   same-seeds = refl
 
-  same-kept : kept (table ws es fs al ae p s seeding) ≡ kept (taskOf ws es fs al ae p s seeding size least limit)
+  same-kept : kept (table ws es fs al ae p s seeding) ≡ kept t
   unfolding table kept seeds decorated alphabet wordUnits frequencies
   same-kept = refl
 
   module _ (work xs ys ms ss : List ℕ) where
+    abbrev was : Rooms
+    was = roomsOf work xs ys ms ss
+
     module _ (units : ℕ) (e : Encoded) (cs vs zs : List ℕ) (d : SeedDone e (table ws es fs al ae p s seeding) units xs ys cs vs zs) where
-      pub table-out : e ≡ encoded.NoRoom → (now : Rooms) → TableDone (is.Refused why.SeedRoom) (taskOf ws es fs al ae p s seeding size least limit) (roomsOf work xs ys ms ss) now
+      pub table-out : e ≡ encoded.NoRoom → (now : Rooms) → TableDone (is.Refused why.SeedRoom) t was now
       unfolding SeedDone TableDone trainVerdict
-      table-out q now = (seed-exceeds (taskOf ws es fs al ae p s seeding size least limit) (roomsOf work xs ys ms ss) (rw same-seeds at (rw q at d)), refl)
+      table-out q now = (seed-exceeds t was (rw same-seeds at (rw q at d)), refl)
 
       module _ (c u : ℕ) (w : WordSet) (q : e ≡ encoded.Done c u w) where
         sown : Sown (table ws es fs al ae p s seeding) units xs ys cs vs zs c u w
         unfolding SeedDone
         sown = rw q at d
 
-        are : pieces vs zs c ≡ seeds (taskOf ws es fs al ae p s seeding size least limit)
+        are : pieces vs zs c ≡ seeds t
         are = sown .are ∙ same-seeds
 
-        number : c ≡ length (seeds (taskOf ws es fs al ae p s seeding size least limit))
+        number : c ≡ length (seeds t)
         number = sym (length-pieces vs zs c) ∙ ap length are
 
-        bytes : u ≡ length (pieceBytes (seeds (taskOf ws es fs al ae p s seeding size least limit)))
+        bytes : u ≡ length (pieceBytes (seeds t))
         bytes = sym (length-bytes c u vs zs (sown .held)) ∙ ap (λ (ps : List (List ℕ)). length (pieceBytes ps)) are
 
-        view : corpus cs (w .starts) (w .count) ≡ kept (taskOf ws es fs al ae p s seeding size least limit)
+        view : corpus cs (w .starts) (w .count) ≡ kept t
         view = sown .view ∙ same-kept
 
-        ends-fit : length (seeds (taskOf ws es fs al ae p s seeding size least limit)) * 4 ≤ length ys
+        ends-fit : length (seeds t) * 4 ≤ length ys
         ends-fit = omega (arith, number, sown .held .ends, sown .ends .long)
 
-        bytes-fit : length (pieceBytes (seeds (taskOf ws es fs al ae p s seeding size least limit))) ≤ length xs
+        bytes-fit : length (pieceBytes (seeds t)) ≤ length xs
         bytes-fit = omega (arith, bytes, sown .held .bytes, sown .bytes .long)
 
-        pub table-ready : CanTrain (taskOf ws es fs al ae p s seeding size least limit) units work → (rs : List ℕ) → cs ≡ cells rs → length rs ≡ length work → CanGrow w c u units cs vs zs
+        pub table-ready : CanTrain t units work → (rs : List ℕ) → cs ≡ cells rs → length rs ≡ length work → CanGrow w c u units cs vs zs
         table-ready g rs z l =
             record {
               held = sown .held;
@@ -151,49 +154,48 @@ module _ (ws es fs al ae p s : List ℕ) (seeding size least limit : ℕ) where
               top = sown .top;
               live = sown-live (table ws es fs al ae p s seeding) units xs ys cs vs zs c u w sown (can-seed units work g .units-are);
               units-few = g .seeds .units-few;
-              room = omega (arith, room-cells units (A (taskOf ws es fs al ae p s seeding size least limit)) work (g .seeds .room), ap length z, length-cells rs, length-cells work, ap (λ (n : ℕ). n / 8) l);
-              light = rw view (omega (arith, g .light, kept-light (taskOf ws es fs al ae p s seeding size least limit)));
-              below = rw (view, number) (kept-below (taskOf ws es fs al ae p s seeding size least limit));
-              frequent = rw view (kept-weighed (taskOf ws es fs al ae p s seeding size least limit) (g .frequent));
+              room = omega (arith, room-cells units (A t) work (g .seeds .room), ap length z, length-cells rs, length-cells work, ap (λ (n : ℕ). n / 8) l);
+              light = rw view (omega (arith, g .light, kept-light t));
+              below = rw (view, number) (kept-below t);
+              frequent = rw view (kept-weighed t (g .frequent));
             }
 
         module _ (a : Answer) (ls ks ns ts : List ℕ) (g : GrownDone a w c u p size least limit cs vs zs ms ss ls ks ns ts) (b : Bytes ks) (after : List ℕ) where
-          settings : Settings (taskOf ws es fs al ae p s seeding size least limit) p least limit
+          settings : Settings t p least limit
           settings = record { prefix-is = refl; least-is = refl; limit-is = refl }
 
           -- the merges of the loop are the task's
-          merges-are : trainFrom (taskOf ws es fs al ae p s seeding size least limit) (size - c) (pieces vs zs c) (corpus cs (w .starts) (w .count))
-              ≡ trained (taskOf ws es fs al ae p s seeding size least limit)
+          merges-are : trainFrom t (size - c) (pieces vs zs c) (corpus cs (w .starts) (w .count))
+              ≡ trained t
           unfolding trained
           merges-are = rw (are, view, number)
 
-          all-are : withMerges (pieces vs zs c) (trained (taskOf ws es fs al ae p s seeding size least limit)) ≡ allPieces (taskOf ws es fs al ae p s seeding size least limit)
+          all-are : withMerges (pieces vs zs c) (trained t) ≡ allPieces t
           unfolding allPieces
           all-are = rw are
 
-          pub table-done : TableDone a (taskOf ws es fs al ae p s seeding size least limit) (roomsOf work xs ys ms ss) (roomsOf after ls ks ns ts)
+          pub table-done : TableDone a t was (roomsOf after ls ks ns ts)
           unfolding TableDone GrownDone GrownOut TrainedDone TooMuch trainVerdict
           table-done = go a g
             where
-              done : (n v k : ℕ) → c ≤ size → Written (trainFrom (taskOf ws es fs al ae p s seeding size least limit) (size - c) (pieces vs zs c) (corpus cs (w .starts) (w .count))) c u vs zs ms ss ls ks ns ts n v k
-                  → TableDone (is.Done n c k) (taskOf ws es fs al ae p s seeding size least limit) (roomsOf work xs ys ms ss) (roomsOf after ls ks ns ts)
+              done : (n v k : ℕ) → c ≤ size → Written (trainFrom t (size - c) (pieces vs zs c) (corpus cs (w .starts) (w .count))) c u vs zs ms ss ls ks ns ts n v k
+                  → TableDone (is.Done n c k) t was (roomsOf after ls ks ns ts)
               done n v k h x =
                   let o = rw merges-are at x in
-                  let q = taskOf ws es fs al ae p s seeding size least limit in
-                  let ps : pieces ls ks n ≡ allPieces (taskOf ws es fs al ae p s seeding size least limit) = o .are ∙ all-are in
+                  let ps : pieces ls ks n ≡ allPieces t = o .are ∙ all-are in
                   let kb : Kept 0 v xs ls = kept-then (kept-wide {lo = 0} {hi = u} 0 v (omega arith) (omega (arith, o .grows)) (sown .bytes)) (kept-wide {lo = u} {hi = v} 0 v (omega arith) (omega arith) (o .bytes)) in
                   let ke : Kept 0 (n * 4) ys ks = kept-then (kept-wide {lo = 0} {hi = c * 4} 0 (n * 4) (omega arith) (omega (arith, o .least)) (sown .ends))
                   (kept-wide {lo = c * 4} {hi = n * 4} 0 (n * 4) (omega arith) (omega arith) (o .ends)) in
-                  let lb : length (pieceBytes (allPieces (taskOf ws es fs al ae p s seeding size least limit))) ≡ v = ap (λ (l : List (List ℕ)). length (pieceBytes l)) (sym ps) ∙ length-bytes n v ls ks (o .held) in
-                  let pr : part 0 (n * 4) ks ≡ pieceRecords (allPieces (taskOf ws es fs al ae p s seeding size least limit)) = records-are n v ls ks (o .held) b ∙ ap pieceRecords ps in
-                  let lr : length (pieceRecords (allPieces (taskOf ws es fs al ae p s seeding size least limit))) ≡ n * 4 = ap length (sym pr) ∙ length-part 0 (n * 4) ks (omega (arith, o .held .ends)) in
+                  let lb : length (pieceBytes (allPieces t)) ≡ v = ap (λ (l : List (List ℕ)). length (pieceBytes l)) (sym ps) ∙ length-bytes n v ls ks (o .held) in
+                  let pr : part 0 (n * 4) ks ≡ pieceRecords (allPieces t) = records-are n v ls ks (o .held) b ∙ ap pieceRecords ps in
+                  let lr : length (pieceRecords (allPieces t)) ≡ n * 4 = ap length (sym pr) ∙ length-part 0 (n * 4) ks (omega (arith, o .held .ends)) in
                   let bf : v ≤ length xs = omega (arith, o .held .bytes, kb .long) in
                   let ef : n * 4 ≤ length ys = omega (arith, o .held .ends, ke .long) in (
-                    all-fit (taskOf ws es fs al ae p s seeding size least limit) (roomsOf work xs ys ms ss) ends-fit bytes-fit (omega (arith, number)) (omega arith) (omega arith) (omega (arith, o .held .small))
+                    all-fit t was ends-fit bytes-fit (omega (arith, number)) (omega arith) (omega arith) (omega (arith, o .held .small))
                         (o .merges-fit) (o .savings-fit) n c k (sym (length-pieces ls ks n) ∙ ap length ps) number (o .count),
                     record {
-                      pieces = laid-front v xs ls (pieceBytes (allPieces (taskOf ws es fs al ae p s seeding size least limit))) kb bf (bytes-are n v ls ks (o .held) ∙ ap pieceBytes ps);
-                      ends = laid-front (n * 4) ys ks (pieceRecords (allPieces (taskOf ws es fs al ae p s seeding size least limit))) ke ef pr;
+                      pieces = laid-front v xs ls (pieceBytes (allPieces t)) kb bf (bytes-are n v ls ks (o .held) ∙ ap pieceBytes ps);
+                      ends = laid-front (n * 4) ys ks (pieceRecords (allPieces t)) ke ef pr;
                       merges = o .merges;
                       savings = o .savings;
                       bytes-fit = omega (arith, lb);
@@ -204,15 +206,15 @@ module _ (ws es fs al ae p s : List ℕ) (seeding size least limit : ℕ) where
                   )
 
               out : (r : TrainError) → GrownOut r w c u p size least limit cs vs zs ms ss ls ks ns ts
-                  → TableDone (is.Refused r) (taskOf ws es fs al ae p s seeding size least limit) (roomsOf work xs ys ms ss) (roomsOf after ls ks ns ts)
+                  → TableDone (is.Refused r) t was (roomsOf after ls ks ns ts)
               out (why.VocabTooSmall i j) h =
-                  (rw (h .0, h .1, number) (vocab-low (taskOf ws es fs al ae p s seeding size least limit) (roomsOf work xs ys ms ss) ends-fit bytes-fit (omega (arith, number, h .2))), refl)
+                  (rw (h .0, h .1, number) (vocab-low t was ends-fit bytes-fit (omega (arith, number, h .2))), refl)
               out why.OutputRoom h =
-                  (output-exceeds (taskOf ws es fs al ae p s seeding size least limit) (roomsOf work xs ys ms ss) ends-fit bytes-fit (omega (arith, number, h .0)) (more (rw merges-are at (h .1 (taskOf ws es fs al ae p s seeding size least limit) settings))), refl)
+                  (output-exceeds t was ends-fit bytes-fit (omega (arith, number, h .0)) (more (rw merges-are at (h .1 t settings))), refl)
                 where
-                  more : TooMuch (trained (taskOf ws es fs al ae p s seeding size least limit)) (pieces vs zs c) vs zs ms ss
-                      → Exceed (allPieces (taskOf ws es fs al ae p s seeding size least limit)) xs ys ⊎ ((length ms < length (mergeBytes (trained (taskOf ws es fs al ae p s seeding size least limit)))) ⊎ (length ss < length (savingBytes (trained (taskOf ws es fs al ae p s seeding size least limit)))))
-                  more (inl i) = inl (exceed-lengths (allPieces (taskOf ws es fs al ae p s seeding size least limit)) xs ys vs zs (sown .bytes .long) (sown .ends .long) (rw all-are at i))
+                  more : TooMuch (trained t) (pieces vs zs c) vs zs ms ss
+                      → Exceed (allPieces t) xs ys ⊎ ((length ms < length (mergeBytes (trained t))) ⊎ (length ss < length (savingBytes (trained t))))
+                  more (inl i) = inl (exceed-lengths (allPieces t) xs ys vs zs (sown .bytes .long) (sown .ends .long) (rw all-are at i))
                   more (inr i) = inr i
               out why.BadShape h = absurd h
               out why.TooMany h = absurd h
@@ -224,6 +226,6 @@ module _ (ws es fs al ae p s : List ℕ) (seeding size least limit : ℕ) where
               out why.SeedRoom h = absurd h
 
               go : (r : Answer) → GrownDone r w c u p size least limit cs vs zs ms ss ls ks ns ts
-                  → TableDone r (taskOf ws es fs al ae p s seeding size least limit) (roomsOf work xs ys ms ss) (roomsOf after ls ks ns ts)
-              go (is.Done n a k) h = rw (h .1) (done n (h .2 .0) k (h .0) (h .2 .1 (taskOf ws es fs al ae p s seeding size least limit) settings))
+                  → TableDone r t was (roomsOf after ls ks ns ts)
+              go (is.Done n a k) h = rw (h .1) (done n (h .2 .0) k (h .0) (h .2 .1 t settings))
               go (is.Refused r) h = out r h

@@ -50,19 +50,25 @@ early ws es fs al ae pre suf seeding size room =
 
 module _ (ws es fs al ae p s : List ℕ) (seeding size least limit : ℕ) (work xs ys ms ss : List ℕ) (j : Judged) (n : ℕ) (e : n ≡ length work)
     (a : j ≡ tableAnswer ws es fs al ae p s seeding size n) where
-  told : taskAnswer (taskOf ws es fs al ae p s seeding size least limit) (roomsOf work xs ys ms ss) ≡ j
-  told = task-answer (taskOf ws es fs al ae p s seeding size least limit) (roomsOf work xs ys ms ss) ∙ sym (rw e at a)
+  abbrev t : Task
+  t = taskOf ws es fs al ae p s seeding size least limit
+
+  abbrev was : Rooms
+  was = roomsOf work xs ys ms ss
+
+  told : taskAnswer t was ≡ j
+  told = task-answer t was ∙ sym (rw e at a)
 
   -- REFUSED by one of the first seven rows
   pub train-refused : (r : TrainError) → j ≡ judged.Refused r
-      → TrainDone (is.Refused r) (taskOf ws es fs al ae p s seeding size least limit) (roomsOf work xs ys ms ss) (roomsOf work xs ys ms ss)
+      → TrainDone (is.Refused r) t was was
   unfolding answered Early
   train-refused r q =
-      let v = refused-verdict (taskOf ws es fs al ae p s seeding size least limit) (roomsOf work xs ys ms ss) r (told ∙ q) in
+      let v = refused-verdict t was r (told ∙ q) in
       let k = go (tableAnswer ws es fs al ae p s seeding size n) (sym a ∙ q) (early ws es fs al ae p s seeding size n) in
       record {
         answer = sym v;
-        rooms = rw v (left-untouched (taskOf ws es fs al ae p s seeding size least limit) (roomsOf work xs ys ms ss) (trainVerdict r) k (refused-some r));
+        rooms = rw v (left-untouched t was (trainVerdict r) k (refused-some r));
       }
     where
       go : (x : Judged) → x ≡ judged.Refused r → Early x → clears (trainVerdict r .number) ≡ false
@@ -70,16 +76,14 @@ module _ (ws es fs al ae p s : List ℕ) (seeding size least limit : ℕ) (work 
 
   -- PASSED
   module _ (u : ℕ) (q : j ≡ judged.Fine u) where
-    passed : Passed (taskOf ws es fs al ae p s seeding size least limit) (roomsOf work xs ys ms ss) u
-    passed = fine-when (taskOf ws es fs al ae p s seeding size least limit) (roomsOf work xs ys ms ss) u (told ∙ q)
+    passed : Passed t was u
+    passed = fine-when t was u (told ∙ q)
 
-    pub train-can : CanTrain (taskOf ws es fs al ae p s seeding size least limit) u work
+    pub train-can : CanTrain t u work
     unfolding roomFor
     train-can =
-        let t = taskOf ws es fs al ae p s seeding size least limit in
-        let r = roomsOf work xs ys ms ss in
-        let so = passed-sound (taskOf ws es fs al ae p s seeding size least limit) (roomsOf work xs ys ms ss) u passed in
-        let li = passed-limits (taskOf ws es fs al ae p s seeding size least limit) (roomsOf work xs ys ms ss) u passed in
+        let so = passed-sound t was u passed in
+        let li = passed-limits t was u passed in
         record {
           seeds = record {
             words-shaped = so .words-shaped;
@@ -91,16 +95,16 @@ module _ (ws es fs al ae p s : List ℕ) (seeding size least limit : ℕ) (work 
             prefix-short = li .prefix-short;
             suffix-short = li .suffix-short;
             units-are = passed .units-are;
-            units-few = omega (arith, passed-few (taskOf ws es fs al ae p s seeding size least limit) (roomsOf work xs ys ms ss) u passed, li .bytes-few);
-            room = passed-room (taskOf ws es fs al ae p s seeding size least limit) (roomsOf work xs ys ms ss) u passed;
+            units-few = omega (arith, passed-few t was u passed, li .bytes-few);
+            room = passed-room t was u passed;
           };
           size = li .size-low;
-          light = passed-light (taskOf ws es fs al ae p s seeding size least limit) (roomsOf work xs ys ms ss) u passed;
-          frequent = passed-frequency (taskOf ws es fs al ae p s seeding size least limit) (roomsOf work xs ys ms ss) u passed;
+          light = passed-light t was u passed;
+          frequent = passed-frequency t was u passed;
         }
 
-    pub train-done : (r : Answer) (now : Rooms) → RoomsDone r (taskOf ws es fs al ae p s seeding size least limit) (roomsOf work xs ys ms ss) now
-        → TrainDone r (taskOf ws es fs al ae p s seeding size least limit) (roomsOf work xs ys ms ss) now
+    pub train-done : (r : Answer) (now : Rooms) → RoomsDone r t was now
+        → TrainDone r t was now
     train-done r now d =
-        let v = fine-verdict (taskOf ws es fs al ae p s seeding size least limit) (roomsOf work xs ys ms ss) u (told ∙ q) in
+        let v = fine-verdict t was u (told ∙ q) in
         record { answer = d .answer ∙ sym v; rooms = rw v (d .rooms) }

@@ -50,7 +50,7 @@ module _ (run ends : List ℕ) where
 
 -- ENDS THAT PASSED IT: each is at least the one before it, and at most the number of bytes
 
-risen-cons : (n last e : ℕ) (es : List ℕ) → riseTo n last (e ∷ es) ≡ true → (last ≤ e) × (riseTo n e es ≡ true)
+pub risen-cons : (n last e : ℕ) (es : List ℕ) → riseTo n last (e ∷ es) ≡ true → (last ≤ e) × (riseTo n e es ≡ true)
 unfolding riseTo
 risen-cons n last e es t = let b = and-eq-true-iff (leb last e) (riseTo n e es) .0 t in (leb-true last e (b .0), b .1)
 
