@@ -6,7 +6,7 @@ use Prim.Native.Nat.{ℕ, _/_}
 use native.Mathlib.Omega.{arith}
 use lib.ListN.{length}
 use Rattle.rule.specs.Shapes.{first}
-use Rattle.rule.specs.Table.{Rooms, roomFor}
+use Rattle.rule.specs.Table.{Rooms, roomFor, Task}
 use Rattle.rule.specs.Refusals.{badShape, tooMany, emptyCorpus, noFrequency, zeroFrequency, misplaced, outOfOrder, tooHeavy, workRoom}
 use Rattle.rule.specs.Outcome.{clears}
 use Rattle.error.specs.Answers.{trainVerdict}
