@@ -8,7 +8,7 @@ use Rattle.runs.specs.Parts.{nth}
 use Rattle.runs.proofs.Parts.{part-lent}
 use Rattle.runs.proofs.Frames.{kept-none, kept-then}
 use Rattle.numbers.specs.Little.{numbers}
-use Rattle.numbers.specs.Cells.{cells}
+use Rattle.cells.specs.Cells.{cells}
 use Rattle.rule.specs.Shapes.{parts, partsBy}
 use Rattle.rule.specs.Seeding.{intern, byteValues}
 use Rattle.vocab.specs.Places.{numbersFrom}

@@ -3,7 +3,7 @@ use mathlib.Core.List.{List, [], foldl}
 use Prim.Native.Nat.{ℕ, _+_, _*_, _<_}
 use lib.ListN.{length}
 use Rattle.runs.specs.Parts.{Kept}
-use Rattle.numbers.specs.Cells.{cells}
+use Rattle.cells.specs.Cells.{cells}
 use Rattle.rule.specs.Seeding.{intern}
 use Rattle.intern.specs.Pieces.{pieces}
 use Rattle.intern.specs.Intern.{Pieces}

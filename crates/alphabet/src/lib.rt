@@ -3,7 +3,7 @@
 ghost use mathlib.Core.Path.{_≡_};
 ghost use mathlib.Core.Bool.{true};
 ghost use mathlib.Core.List.{[], _∷_};
-ghost use Rattle.numbers.specs.Cells.{cells};
+ghost use Rattle.cells.specs.Cells.{cells};
 ghost use Rattle.rule.specs.Shapes.{partsBy, shaped};
 ghost use Rattle.rule.specs.Seeding.{byteValues};
 ghost use Rattle.intern.specs.Intern.{CanIntern};

@@ -1,2 +1,2 @@
 -- The definitions of `arena`.
-pub mod Arena
+pub mod Claims

@@ -10,8 +10,7 @@ use Rattle.runs.proofs.Parts.{same-or-not}
 use Rattle.runs.proofs.Frames.{kept-none, kept-then}
 use Rattle.rule.specs.Rewriting.{more}
 use Rattle.rule.proofs.Counts.{under-nth}
-use Rattle.word.specs.Layout.{symbolIn, symbolsAt, corpus}
-use Rattle.word.specs.Pushing.{Found}
+use Rattle.word.specs.Layout.{symbolIn, symbolsAt, corpus, Found}
 use Rattle.word.specs.declared.WordSet.{WordSet}
 use Rattle.word.specs.declared.Span.{Span}
 use Rattle.word.proofs.Views.{symbols-length, nth-symbols, symbols-cons, corpus-length, under-at}

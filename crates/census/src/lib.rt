@@ -1,5 +1,5 @@
 // The first count: what is known of every pair before any merge (`count_pairs` of the original).
-ghost use Rattle.numbers.specs.Cells.{cells};
+ghost use Rattle.cells.specs.Cells.{cells};
 ghost use Rattle.census.specs.Census.{CanCount, CountDone, CanCountWord, WordCounted};
 use pairs::Pairs;
 use word::WordSet;

@@ -3,7 +3,7 @@
 ghost use mathlib.Core.Path.{_≡_};
 ghost use Prim.Native.Nat.{_+_, _*_, _<_, _≤_};
 ghost use lib.ListN.{length};
-ghost use Rattle.numbers.specs.Cells.{cells};
+ghost use Rattle.cells.specs.Cells.{cells};
 ghost use Rattle.intern.specs.Pieces.{Held};
 ghost use Rattle.intern.specs.Pieces as rooms;
 ghost use Rattle.queue.specs.Heap.{Heap};
@@ -63,7 +63,7 @@ fn live_count(room: &[u8], p: Pairs, key: u64) -> u64
     if v == 0 {
         return 0;
     }
-    pairs::count(room, p, key, (v - 1) as usize)
+    fields::count(room, p, key, (v - 1) as usize)
 }
 
 // A stale entry: dropped where its pair is gone, else among the m candidates again with its count now. How many candidates wait.
@@ -89,8 +89,8 @@ fn block(room: &mut [u8], p: Pairs, key: u64)
 {
     let v = pairs::find(room, p, key);
     let r = (v - 1) as usize;
-    let m = marks::set_blocked(pairs::marks(room, p, key, r));
-    pairs::set_marks(room, p, key, r, m);
+    let m = marks::set_blocked(fields::marks(room, p, key, r));
+    fields::set_marks(room, p, key, r, m);
 }
 
 // Takes the head of the queue. The tests are in this order: stale, the minimum, the length.

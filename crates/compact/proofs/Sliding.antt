@@ -10,8 +10,7 @@ use Rattle.runs.proofs.Parts.{same-or-not, below-or-not, nth-put, nth-put-other
 use Rattle.runs.proofs.Frames.{kept-none, kept-then, kept-laid}
 use Rattle.rule.specs.Seeding.{Entry}
 use Rattle.rule.specs.Sums.{inUse}
-use Rattle.word.specs.Layout.{symbolIn, symbolsAt, endAt, line, lines, corpus, entryAt, InLine, Words}
-use Rattle.word.specs.Pushing.{Placed}
+use Rattle.word.specs.Layout.{symbolIn, symbolsAt, endAt, line, lines, corpus, entryAt, InLine, Words, Placed}
 use Rattle.word.specs.declared.WordSet.{WordSet}
 use Rattle.word.proofs.Views.{symbols-length, corpus-none, corpus-entry, corpus-more, corpus-lines, lines-same, length-moved, line-moved, line-same, inUse-append}
 use Rattle.word.proofs.Sets.{word-symbols, words-room}

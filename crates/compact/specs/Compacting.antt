@@ -1,13 +1,19 @@
--- Sliding the words of a set together.
+-- Sliding the words of a set together, and when.
 use mathlib.Core.Path.{_≡_}
+use mathlib.Core.Bool.{Bool}
 use mathlib.Core.List.{List}
 use mathlib.Core.Logic.{_⊎_}
-use Prim.Native.Nat.{ℕ, _+_, _*_, _≤_, _<_}
+use Prim.Native.Nat.{ℕ, _+_, _-_, _*_, _≤_, _<_}
+use lib.Dec.{ltb}
 use lib.ListN.{length}
 use Rattle.runs.specs.Parts.{nth, put, part, laid, Kept}
 use Rattle.rule.specs.Sums.{inUse}
 use Rattle.word.specs.Layout.{endAt, line, lines, corpus, InLine, Words, Numbers}
 use Rattle.word.specs.declared.WordSet.{WordSet}
+
+-- the gaps take more cells than the symbols: of the span, each word's two cells before its symbols are neither
+unfoldable pub sparse : WordSet → Bool
+sparse w = ltb (2 * w .live) (w .top - w .low - 2 * w .count)
 
 -- the words lie without gaps, and are the words that they were, cell by cell; outside of the set nothing changes
 pub record Compacted (w : WordSet) (cs ds : List ℕ) (r : WordSet) : Type 0 where

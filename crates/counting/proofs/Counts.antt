@@ -12,8 +12,7 @@ use Rattle.rule.specs.Training.{count}
 use Rattle.rule.specs.Sums.{symbolsIn}
 use Rattle.rule.proofs.Rewriting.{pair-hit, pair-miss}
 use Rattle.rule.proofs.Counts.{count-length}
-use Rattle.word.specs.Layout.{symbolIn, symbolsAt, corpus, entryAt}
-use Rattle.word.specs.Pushing.{Found}
+use Rattle.word.specs.Layout.{symbolIn, symbolsAt, corpus, entryAt, Found}
 use Rattle.word.specs.declared.WordSet.{WordSet}
 use Rattle.word.specs.declared.Span.{Span}
 use Rattle.word.proofs.Views.{symbols-length, symbols-two, symbols-next, corpus-length, drop-entry}

@@ -2,7 +2,7 @@
 ghost use mathlib.Core.Path.{_≡_};
 ghost use Prim.Native.Nat.{_+_, _<_, _≤_, _^_};
 ghost use lib.ListN.{length, drop};
-ghost use Rattle.numbers.specs.Cells.{cells};
+ghost use Rattle.cells.specs.Cells.{cells};
 ghost use Rattle.rule.specs.Rewriting.{countIn};
 ghost use Rattle.rule.specs.Training.{count};
 ghost use Rattle.rule.specs.Sums.{symbolsIn};
@@ -23,7 +23,7 @@ fn hit(s: u32, t: u32, p: u32, q: u32) -> u64
 }
 
 // How many adjacent positions of the n symbols from the cell `start` on hold (p,q). Overlaps count.
-pub fn count_in(room: &[u8], start: usize, n: usize, p: u32, q: u32) -> u64
+fn count_in(room: &[u8], start: usize, n: usize, p: u32, q: u32) -> u64
     requires { ⌜ start + n ≤ length (cells (now room)) ⌝ }
     ensures { λ r. ⌜ r ≡ countIn p q (symbolsAt start n (cells (now (room .entry)))) ⌝ }
 {

@@ -7,7 +7,7 @@ use native.Mathlib.Omega.{arith}
 use lib.ListN.{length}
 use Rattle.runs.specs.Parts.{nth}
 use Rattle.numbers.specs.Little.{numbers}
-use Rattle.numbers.specs.Cells.{cells}
+use Rattle.cells.specs.Cells.{cells}
 use Rattle.rule.specs.Table.{total}
 use Rattle.rule.specs.Spelling.{decorate}
 use Rattle.rule.specs.Seeding.{Entry, intern, numberOf, keep, keptWith}
@@ -20,7 +20,7 @@ use Rattle.intern.proofs.Lists.{interns-append}
 use Rattle.intern.proofs.Elsewhere.{pieces-elsewhere, pieces-kept}
 use Rattle.alphabet.specs.Seeds.{CanSeed}
 use Rattle.word.specs.Layout.{symbolsAt, corpus, Words}
-use Rattle.word.specs.Pushing.{Opened, Pushed}
+use Rattle.pushing.specs.Pushing.{Opened, Pushed}
 use Rattle.word.specs.declared.WordSet.{WordSet}
 use Rattle.encoding.specs.Encoding.{after, WordDone, EntryDone, WordsDone}
 use Rattle.encoding.specs.declared.Worded.{Worded}

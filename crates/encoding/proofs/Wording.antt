@@ -11,7 +11,7 @@ use lib.Seq.{append-snoc, take-all}
 use borrow.Author.Tests.{eq-eqb, ne-eqb}
 use Rattle.runs.specs.Parts.{nth, part, Kept}
 use Rattle.runs.proofs.Parts.{same-or-not}
-use Rattle.numbers.specs.Cells.{cells}
+use Rattle.cells.specs.Cells.{cells}
 use Rattle.rfc3629.specs.Cut.{unitsBy}
 use Rattle.rule.specs.Spelling.{decorate}
 use Rattle.rule.specs.Seeding.{intern, numberOf}
@@ -32,7 +32,7 @@ use Rattle.alphabet.specs.Seeds.{CanSeed}
 use Rattle.alphabet.specs.declared.Seeded.{Seeded}
 use Rattle.alphabet.specs.declared.Seeded.the-variants as seeded
 use Rattle.word.specs.Layout.{symbolsAt, corpus, Words}
-use Rattle.word.specs.Pushing.{Added}
+use Rattle.pushing.specs.Pushing.{Added}
 use Rattle.word.specs.declared.WordSet.{WordSet}
 use Rattle.word.proofs.Sets.{words-kept, corpus-kept, symbols-kept}
 use Rattle.word.proofs.Views.{symbols-none}

@@ -6,7 +6,7 @@ use native.Mathlib.Omega.{arith}
 use lib.ListN.{length}
 use Rattle.runs.specs.Parts.{nth, part}
 use Rattle.numbers.specs.Little.{load, numbers}
-use Rattle.numbers.specs.Cells.{cells}
+use Rattle.cells.specs.Cells.{cells}
 use Rattle.rule.specs.Shapes.{parts}
 use Rattle.rule.specs.Table.{units, unitsOf, total}
 use Rattle.rule.specs.Spelling.{decorate}

@@ -5,7 +5,7 @@ use Prim.Native.Nat.{ℕ, _+_, _*_, _<_, _≤_}
 use lib.ListN.{length}
 use Rattle.runs.specs.Parts.{nth}
 use Rattle.numbers.specs.Little.{numbers}
-use Rattle.numbers.specs.Cells.{cells}
+use Rattle.cells.specs.Cells.{cells}
 use Rattle.rule.specs.Table.{unitsOf, total}
 use Rattle.rule.specs.Spelling.{decorate}
 use Rattle.rule.specs.Seeding.{Entry, intern, numberOf, keep, keptWith}
@@ -14,7 +14,7 @@ use Rattle.intern.specs.Many.{Ran, Exceed}
 use Rattle.alphabet.specs.declared.Seeded.{Seeded}
 use Rattle.alphabet.specs.declared.Seeded.the-variants as seeded
 use Rattle.word.specs.Layout.{symbolsAt, corpus, Words}
-use Rattle.word.specs.Pushing.{Takes}
+use Rattle.pushing.specs.Pushing.{Takes}
 use Rattle.word.specs.declared.WordSet.{WordSet}
 use Rattle.encoding.specs.declared.Worded.{Worded}
 use Rattle.encoding.specs.declared.Worded.the-variants as worded

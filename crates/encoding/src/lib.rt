@@ -8,8 +8,7 @@ ghost use mathlib.Core.List.{_++_};
 ghost use Prim.Native.Nat.{_+_, _-_, _*_, _/_, _<_, _≤_};
 ghost use lib.ListN.{length};
 ghost use Rattle.runs.specs.Parts.{part};
-ghost use Rattle.numbers.specs.Little.{numbers};
-ghost use Rattle.numbers.specs.Cells.{cells};
+ghost use Rattle.cells.specs.Cells.{cells};
 ghost use Rattle.rfc3629.specs.Cut.{unitsBy};
 ghost use Rattle.rule.specs.Shapes.{shaped};
 ghost use Rattle.rule.specs.Table.{units};
@@ -57,7 +56,7 @@ fn seed_unit(
     );
     match r {
         Interned::At(k, m, u) => {
-            word::add(room, w, n, k as u32);
+            pushing::add(room, w, n, k as u32);
             Seeded::Done(m, u)
         }
         Interned::NoRoom => Seeded::NoRoom,
@@ -172,7 +171,7 @@ fn seed_entry(
     ensures { λ r. ⌜ EntryDone r w base cap count used frequency (now (prefix .entry)) (now (suffix .entry)) (units seeding (part from (to - from) (now (words .entry))))
         (now (room .entry)) (now (pieces .entry)) (now (ends .entry)) (now (room .exit)) (now (pieces .exit)) (now (ends .exit)) ⌝ }
 {
-    word::open(room, w, frequency);
+    pushing::open(room, w, frequency);
     let whole = text::whole(words, from, to, Seeding::from_number(seeding));
     let r = seed_word(
         room,
@@ -192,7 +191,7 @@ fn seed_entry(
     );
     match r {
         Worded::Done(m, u, n) => {
-            let more = word::push(room, w, n);
+            let more = pushing::push(room, w, n);
             Encoded::Done(m, u, more)
         }
         Worded::NoRoom => Encoded::NoRoom,

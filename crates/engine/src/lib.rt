@@ -1,7 +1,7 @@
 // The queue engine between two merges: the words, what is known of each pair, and the queue of the pairs that may be merged next.
 // So a merge goes to the words that hold its pair and to no others, and leaves the queue's entries alone.
 ghost use mathlib.Core.Bool.{true};
-ghost use Rattle.numbers.specs.Cells.{cells};
+ghost use Rattle.cells.specs.Cells.{cells};
 ghost use Rattle.marks.specs.Marks.{touched, marking};
 ghost use Rattle.word.specs.Layout.{Words};
 ghost use Rattle.pairs.specs.View.{state};
@@ -25,8 +25,8 @@ fn clear(room: &mut [u8], p: Pairs)
     requires { ⌜ CanClear p (cells (now room)) ⌝ }
     ensures { λ _. ⌜ Cleared p (cells (now (room .entry))) (cells (now (room .exit))) ⌝ }
 {
-    numbers::clear_cells(room, p.base, 2 * p.cap + 3);
-    numbers::clear_cells(room, p.base + 2 * p.cap + 3 + p.most * 8, 2);
+    cells::clear_cells(room, p.base, 2 * p.cap + 3);
+    cells::clear_cells(room, p.base + 2 * p.cap + 3 + p.most * 8, 2);
 }
 
 // The pair that is merged counts as touched: it is not put on the list, and not released while its words are read.
@@ -36,9 +36,9 @@ fn mark(room: &mut [u8], p: Pairs, key: u64, r: usize)
         (record { count = state p (cells (now (room .entry))) key .count; marks = marking touched true (state p (cells (now (room .entry))) key .marks); words = state p (cells (now (room .entry))) key .words })
         (cells (now (room .entry))) (cells (now (room .exit))) ⌝ }
 {
-    let m = pairs::marks(room, p, key, r);
+    let m = fields::marks(room, p, key, r);
     let touched = marks::set_touched(m);
-    pairs::set_marks(room, p, key, r, touched);
+    fields::set_marks(room, p, key, r, touched);
 }
 
 // Closes the gaps between the words, where these take more cells than the symbols.
@@ -46,7 +46,7 @@ fn tidy(room: &mut [u8], w: WordSet) -> WordSet
     requires { ⌜ Words w (cells (now room)) ⌝ }
     ensures { λ r. ⌜ Tidied w (cells (now (room .entry))) (cells (now (room .exit))) r ⌝ }
 {
-    if word::is_sparse(w) {
+    if compact::is_sparse(w) {
         return compact::compact(room, w);
     }
     w

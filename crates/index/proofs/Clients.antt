@@ -7,7 +7,7 @@ use native.Mathlib.Omega.{arith}
 use lib.ListN.{length}
 use Rattle.runs.specs.Parts.{nth, laid, zeros, Kept}
 use Rattle.runs.proofs.Parts.{same-or-not, length-zeros, nth-zeros, length-laid, nth-laid}
-use Rattle.numbers.proofs.Ring.{blanks-same, blanks-all, blanks-lt}
+use Rattle.cells.proofs.Ring.{blanks-same, blanks-all, blanks-lt}
 use Rattle.index.specs.Index.{keyAt, valueAt, home, slot, value, vacant, idle, Index, Set, Empty, Inserted, SameIndex}
 use Rattle.index.specs.declared.Found.{Found}
 use Rattle.index.specs.declared.Found.the-variants.{At, Vacant, Full}

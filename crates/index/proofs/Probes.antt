@@ -4,8 +4,8 @@ use Prim.Native.Nat.{ℕ, zero, suc, _<_}
 use native.Mathlib.Omega.{arith}
 use borrow.Author.Tests.{eq-eqb, ne-eqb}
 use Rattle.runs.proofs.Parts.{same-or-not}
-use Rattle.numbers.specs.Ring.{after}
-use Rattle.numbers.proofs.Ring.{after-lt, Ahead, ahead-none, ahead-next, ahead-all}
+use Rattle.cells.specs.Ring.{after}
+use Rattle.cells.proofs.Ring.{after-lt, Ahead, ahead-none, ahead-next, ahead-all}
 use Rattle.index.specs.Probe.{probe}
 use Rattle.index.specs.declared.Found.the-variants.{At, Vacant, Full}
 

@@ -7,8 +7,8 @@ use lib.ListN.{length}
 use Rattle.runs.specs.Parts.{put}
 use Rattle.runs.proofs.Parts.{same-or-not, length-put, nth-put, nth-put-other}
 use Rattle.runs.proofs.Frames.{kept-put}
-use Rattle.numbers.specs.Cells.{cells, Put}
-use Rattle.numbers.proofs.Ring.{blanks-same, blanks-less}
+use Rattle.cells.specs.Cells.{cells, Put}
+use Rattle.cells.proofs.Ring.{blanks-same, blanks-less}
 use Rattle.index.specs.Index.{keyAt, valueAt, home, slot, value, vacant, idle, Index, Set, AtSlot, NewSlot, PutValue, PutKey}
 use Rattle.index.specs.declared.Found.the-variants.{At}
 use Rattle.index.proofs.Probes.{probe-same, probe-still, probe-new}

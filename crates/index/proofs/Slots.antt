@@ -7,8 +7,8 @@ use borrow.Author.Tests.{lt-ltb, le-ltb}
 use native.Mathlib.Nat.{mul-le-mul, mul-lt-mul-of-pos-right}
 use Rattle.runs.specs.Parts.{nth}
 use Rattle.runs.proofs.Parts.{same-or-not, below-or-not}
-use Rattle.numbers.specs.Ring.{after}
-use Rattle.numbers.proofs.Ring.{blanks-some}
+use Rattle.cells.specs.Ring.{after}
+use Rattle.cells.proofs.Ring.{blanks-some}
 use Rattle.index.specs.Probe.{probe}
 use Rattle.index.specs.Index.{keyAt, valueAt, mix, row, home, slot, valueOf, value, vacant, Index}
 use Rattle.index.specs.declared.Found.{Found}

@@ -7,7 +7,7 @@ use Prim.Native.Nat.{ℕ, _+_, _*_, _/_, _%_, _^_, _<_, _≤_}
 use lib.Dec.{ltb}
 use lib.ListN.{length}
 use Rattle.runs.specs.Parts.{nth, Kept}
-use Rattle.numbers.specs.Ring.{blanks}
+use Rattle.cells.specs.Ring.{blanks}
 use Rattle.index.specs.Probe.{probe}
 use Rattle.index.specs.declared.Found.{Found}
 use Rattle.index.specs.declared.Found.the-variants.{At, Vacant, Full}

@@ -6,8 +6,8 @@
 // that comes back takes no new one.
 ghost use mathlib.Core.Path.{_≡_};
 ghost use Prim.Native.Nat.{_<_, _≤_};
-ghost use Rattle.numbers.specs.Cells.{cells};
-ghost use Rattle.numbers.specs.Ring.{after};
+ghost use Rattle.cells.specs.Cells.{cells};
+ghost use Rattle.cells.specs.Ring.{after};
 ghost use Rattle.index.specs.Index.{mix, home, slot, value, Index, CanInsert, Inserted, CanErase, Erased, AtSlot, NewSlot, PutValue, PutKey};
 
 // What a lookup finds: the key's slot, the vacant slot where it would go, or neither.
@@ -58,7 +58,7 @@ fn find(room: &[u8], base: usize, cap: usize, key: u64) -> Found
     let mut i = start(cap, key);
     let mut left = cap;
     while 0 < left {
-        let x = numbers::cell(room, base + 2 * i);
+        let x = cells::cell(room, base + 2 * i);
         if x == key {
             return Found::At(i);
         }
@@ -76,7 +76,7 @@ fn value_in(room: &[u8], base: usize, cap: usize, key: u64, j: usize) -> u64
     requires { ⌜ AtSlot base cap key j (cells (now room)) ⌝ }
     ensures { λ r. ⌜ r ≡ value base cap (cells (now (room .entry))) key ⌝ }
 {
-    numbers::cell(room, base + 2 * j + 1)
+    cells::cell(room, base + 2 * j + 1)
 }
 
 // Puts a value in the key's slot.
@@ -84,7 +84,7 @@ fn put_value(room: &mut [u8], base: usize, cap: usize, key: u64, j: usize, v: u6
     requires { ⌜ (AtSlot base cap key j (cells (now room))) × (0 < key) ⌝ }
     ensures { λ _. ⌜ PutValue base cap key v (cells (now (room .entry))) (cells (now (room .exit))) ⌝ }
 {
-    numbers::put_cell(room, base + 2 * j + 1, v);
+    cells::put_cell(room, base + 2 * j + 1, v);
 }
 
 // Puts the key in the vacant slot where it goes.
@@ -92,7 +92,7 @@ fn put_key(room: &mut [u8], base: usize, cap: usize, key: u64, j: usize)
     requires { ⌜ NewSlot base cap key j (cells (now room)) ⌝ }
     ensures { λ _. ⌜ PutKey base cap key j (cells (now (room .entry))) (cells (now (room .exit))) ⌝ }
 {
-    numbers::put_cell(room, base + 2 * j, key);
+    cells::put_cell(room, base + 2 * j, key);
 }
 
 // The value of a key, 0 where it has none.

@@ -7,8 +7,8 @@ use Prim.Native.Nat.{ℕ, zero, suc, _+_, _%_, _<_, _≤_}
 use native.Mathlib.Omega.{arith}
 use lib.ListN.{length}
 use Rattle.runs.specs.Parts.{nth, Kept}
-use Rattle.numbers.specs.Ring.{after}
-use Rattle.numbers.proofs.Ring.{after-lt, blanks-same}
+use Rattle.cells.specs.Ring.{after}
+use Rattle.cells.proofs.Ring.{after-lt, blanks-same}
 use Rattle.rule.specs.Layout.{pieceAt}
 use Rattle.spells.specs.Hash.{hashOf}
 use Rattle.intern.specs.Seek.{seek, vacancies}

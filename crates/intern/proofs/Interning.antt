@@ -9,15 +9,15 @@ use lib.Dec.{eqb, leb}
 use borrow.Author.Tests.{eq-eqb, ne-eqb, leb-true, leb-false, le-leb, lt-leb, not-true, not-false}
 use lib.ListN.{length, getD, take, drop, length-append}
 use Rattle.runs.specs.Parts.{nth, Kept}
-use Rattle.runs.specs.Order.{same}
+use Rattle.order.specs.Order.{same}
 use Rattle.runs.proofs.Parts.{same-or-not, nth-put, nth-put-other}
 use Rattle.runs.proofs.Frames.{kept-none, kept-wide}
-use Rattle.runs.proofs.Ordered.{same-true, same-refl}
+use Rattle.order.proofs.Ordered.{same-true, same-refl}
 use Rattle.numbers.specs.Little.{store}
-use Rattle.numbers.specs.Cells.{cells, Put}
-use Rattle.numbers.specs.Ring.{after}
-use Rattle.numbers.proofs.Cells.{length-cells}
-use Rattle.numbers.proofs.Ring.{blanks-less, blanks-some}
+use Rattle.cells.specs.Cells.{cells, Put}
+use Rattle.cells.specs.Ring.{after}
+use Rattle.cells.proofs.Cells.{length-cells}
+use Rattle.cells.proofs.Ring.{blanks-less, blanks-some}
 use Rattle.rule.specs.Seeding.{numberOf}
 use Rattle.rule.specs.Layout.{pieceStart, pieceAt}
 use Rattle.rule.proofs.Seeding.{Has, found}

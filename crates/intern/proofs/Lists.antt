@@ -6,9 +6,9 @@ use Prim.Native.Nat.{ℕ, zero, suc, _+_, _<_, _≤_}
 use native.Mathlib.Omega.{arith}
 use native.Mathlib.Numerals.{add-one}
 use lib.ListN.{length, getD, length-append, List·getD-append}
-use Rattle.runs.specs.Order.{same}
+use Rattle.order.specs.Order.{same}
 use Rattle.runs.proofs.Parts.{same-or-not}
-use Rattle.runs.proofs.Ordered.{same-refl}
+use Rattle.order.proofs.Ordered.{same-refl}
 use Rattle.rule.specs.Shapes.{some?}
 use Rattle.rule.specs.Seeding.{intern, numberOf, byteValues}
 use Rattle.rule.specs.Layout.{pieceBytes}

@@ -9,8 +9,8 @@ use lib.ListN.{length, length-append}
 use Rattle.runs.specs.Parts.{nth, part, Kept}
 use Rattle.runs.proofs.Parts.{part-none, part-split, length-part}
 use Rattle.runs.proofs.Frames.{kept-none, kept-then, kept-wide}
-use Rattle.numbers.specs.Cells.{cells}
-use Rattle.numbers.proofs.Ring.{blanks-all}
+use Rattle.cells.specs.Cells.{cells}
+use Rattle.cells.proofs.Ring.{blanks-all}
 use Rattle.rule.specs.Seeding.{intern, numberOf}
 use Rattle.rule.specs.Layout.{pieceBytes, pieceStart, pieceAt}
 use Rattle.rule.proofs.Seeding.{has-intern, interns-stay}

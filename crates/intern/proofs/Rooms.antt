@@ -11,9 +11,9 @@ use Rattle.runs.specs.Parts.{nth, part, laid, Kept}
 use Rattle.runs.proofs.Parts.{same-or-not, below-or-not, nth-past, part-laid, part-lent}
 use Rattle.runs.proofs.Frames.{kept-laid, kept-part}
 use Rattle.numbers.specs.Little.{little, spell, load, store}
-use Rattle.numbers.specs.Cells.{cells}
-use Rattle.numbers.proofs.Little.{length-spell, length-store, load-store, load-store-apart}
-use Rattle.numbers.proofs.Cells.{nth-numbers, length-cells, nth-cells}
+use Rattle.cells.specs.Cells.{cells}
+use Rattle.numbers.proofs.Little.{length-spell, length-store, load-store, load-store-apart, nth-numbers}
+use Rattle.cells.proofs.Cells.{length-cells, nth-cells}
 use Rattle.rule.specs.Layout.{pieceStart, pieceLength, pieceAt}
 use Rattle.intern.specs.Pieces.{pieces, Held}
 

@@ -7,8 +7,8 @@ use native.Mathlib.Omega.{arith}
 use borrow.Author.Tests.{eq-eqb, ne-eqb}
 use Rattle.runs.specs.Parts.{nth}
 use Rattle.runs.proofs.Parts.{same-or-not}
-use Rattle.numbers.specs.Ring.{after}
-use Rattle.numbers.proofs.Ring.{after-lt, Ahead, ahead-none, ahead-next, ahead-all}
+use Rattle.cells.specs.Ring.{after}
+use Rattle.cells.proofs.Ring.{after-lt, Ahead, ahead-none, ahead-next, ahead-all}
 use Rattle.intern.specs.Seek.{numberIn, seek}
 use Rattle.intern.specs.declared.Found.{Found}
 use Rattle.intern.specs.declared.Found.the-variants.{At, Vacant, Full}

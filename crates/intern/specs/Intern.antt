@@ -7,8 +7,8 @@ use Prim.Native.Nat.{ℕ, _+_, _*_, _/_, _%_, _^_, _<_, _≤_}
 use lib.Dec.{eqb}
 use lib.ListN.{length}
 use Rattle.runs.specs.Parts.{nth, Kept}
-use Rattle.runs.specs.Order.{same}
-use Rattle.numbers.specs.Cells.{cells}
+use Rattle.order.specs.Order.{same}
+use Rattle.cells.specs.Cells.{cells}
 use Rattle.rule.specs.Seeding.{intern, numberOf}
 use Rattle.rule.specs.Layout.{pieceAt}
 use Rattle.spells.specs.Hash.{hashOf}

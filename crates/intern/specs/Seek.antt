@@ -4,7 +4,7 @@ use mathlib.Core.List.{List}
 use Prim.Native.Nat.{ℕ, zero, suc, _+_, _-_, _%_}
 use lib.Dec.{eqb}
 use Rattle.runs.specs.Parts.{nth}
-use Rattle.numbers.specs.Ring.{after, blanks}
+use Rattle.cells.specs.Ring.{after, blanks}
 use Rattle.intern.specs.declared.Found.{Found}
 use Rattle.intern.specs.declared.Found.the-variants.{At, Vacant, Full}
 

@@ -10,8 +10,8 @@ ghost use mathlib.Core.List.{_++_};
 ghost use Prim.Native.Nat.{_+_, _*_, _%_, _<_, _≤_};
 ghost use lib.ListN.{length};
 ghost use lib.Dec.{leb};
-ghost use Rattle.numbers.specs.Cells.{cells};
-ghost use Rattle.numbers.specs.Ring.{after};
+ghost use Rattle.cells.specs.Cells.{cells};
+ghost use Rattle.cells.specs.Ring.{after};
 ghost use Rattle.rule.specs.Layout.{pieceStart};
 ghost use Rattle.intern.specs.Pieces.{Held};
 ghost use Rattle.intern.specs.Intern.{spelt, look, Pieces, CanIntern, CanAdd, Answer};
@@ -71,7 +71,7 @@ pub enum Found {
 }
 
 // Which piece has this spelling. At most `cap` slots are looked at.
-pub fn find(
+fn find(
     room: &[u8],
     base: usize,
     cap: usize,
@@ -90,7 +90,7 @@ pub fn find(
     let mut i = (hash % (cap as u64)) as usize;
     let mut left = cap;
     while 0 < left {
-        let x = numbers::cell(room, base + i);
+        let x = cells::cell(room, base + i);
         if x == 0 {
             return Found::Vacant(i);
         }
@@ -154,7 +154,7 @@ fn add(
     let hash = spells::hash_three(prefix, unit, suffix);
     let end = spelling::decorate(pieces, used, prefix, unit, suffix);
     numbers::store4(ends, count * 4, end as u32);
-    numbers::put_cell(room, base + slot, hash * 4294967296 + ((count + 1) as u64));
+    cells::put_cell(room, base + slot, hash * 4294967296 + ((count + 1) as u64));
     Interned::At(count, count + 1, end)
 }
 

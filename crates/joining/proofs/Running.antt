@@ -14,8 +14,7 @@ use Rattle.runs.proofs.Frames.{kept-none, kept-put, kept-part}
 use Rattle.rule.specs.Rewriting.{rewrite, before, after}
 use Rattle.step.specs.Step.{reportsOf}
 use Rattle.step.specs.declared.Step.{Step}
-use Rattle.word.specs.Layout.{symbolIn, symbolsAt, corpus, entryAt}
-use Rattle.word.specs.Pushing.{Found}
+use Rattle.word.specs.Layout.{symbolIn, symbolsAt, corpus, entryAt, Found}
 use Rattle.word.specs.declared.WordSet.{WordSet}
 use Rattle.word.specs.declared.Span.{Span}
 use Rattle.word.proofs.Views.{symbol-alone, symbols-length, symbols-none, symbols-same, nth-symbols}

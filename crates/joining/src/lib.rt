@@ -2,7 +2,7 @@
 ghost use mathlib.Core.Path.{_≡_};
 ghost use Prim.Native.Nat.{_+_, _<_, _≤_};
 ghost use lib.ListN.{length};
-ghost use Rattle.numbers.specs.Cells.{cells};
+ghost use Rattle.cells.specs.Cells.{cells};
 ghost use Rattle.states.specs.State as states;
 ghost use Rattle.pairs.specs.View.{state};
 ghost use Rattle.pairs.specs.Pairs.{Has};
@@ -45,7 +45,7 @@ fn shorten(room: &mut [u8], w: WordSet, start: usize, long: usize, kept: usize, 
     requires { ⌜ CanShorten w start long kept (cells (now room)) ⌝ }
     ensures { λ r. ⌜ Shortened w start long kept m (cells (now (room .entry))) (cells (now (room .exit))) r ⌝ }
 {
-    numbers::put_cell(room, start - 1, kept as u64);
+    cells::put_cell(room, start - 1, kept as u64);
     Joined {
         words: WordSet {
             starts: w.starts,
@@ -85,7 +85,7 @@ fn merge_word(
         let st = merge::look(room, at, left, has, previous, a, b, x);
         m = tell(room, p, m, st, a, b, x, f, k);
         let c = merge::left_by(room, at, st);
-        numbers::put_cell(room, here.start + kept, c);
+        cells::put_cell(room, here.start + kept, c);
         has = true;
         previous = st.symbol;
         at += st.took;

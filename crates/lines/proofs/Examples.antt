@@ -3,7 +3,7 @@ use mathlib.Core.Path.{_≡_, refl}
 use mathlib.Core.List.{List, [], _∷_, _++_, map, flatMap}
 use Prim.Native.Nat.{ℕ}
 use lib.ListN.{replicate}
-use Rattle.runs.specs.Order.{same}
+use Rattle.order.specs.Order.{same}
 use Rattle.rule.specs.Shapes.{spellAll, endsFrom, first}
 use Rattle.numbers.specs.Little.{spell}
 use Rattle.lines.specs.declared.Parsed.{Parsed}

@@ -10,7 +10,7 @@ use lib.ListN.{length, getD, take, drop, length-append, drop-of-length-le}
 use lib.Seq.{drop-drop, drop-cons, getD-append-add, getD-append-seam}
 use borrow.Author.Tests.{eqb-true, leb-true, le-leb, eq-eqb, ne-eqb}
 use Rattle.runs.proofs.Parts.{same-or-not}
-use Rattle.runs.proofs.Ordered.{same-refl, same-true}
+use Rattle.order.proofs.Ordered.{same-refl, same-true}
 use Rattle.lines.specs.Lines.{before, isDigit, digits, wordOf, digitsOf, wellFormed}
 use Rattle.lines.specs.Places.{placeOf, digitsEnd, Fits}
 use Rattle.lines.proofs.Scans.{fits-start}

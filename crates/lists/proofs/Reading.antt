@@ -9,14 +9,14 @@ use lib.Dec.{eqb}
 use lib.ListN.{length}
 use Rattle.runs.specs.Parts.{nth, part}
 use Rattle.runs.proofs.Parts.{below-or-not, same-or-not, nth-ext, nth-part, length-part}
-use Rattle.arena.specs.Arena.{field, Live, Within}
-use Rattle.arena.proofs.Laws.{field-of, field-low}
+use Rattle.records.specs.Records.{field, Live, Within}
+use Rattle.records.proofs.Laws.{field-of, field-low}
 use Rattle.states.specs.State.{State, lastIs}
 use Rattle.pairs.specs.View.{arenaAt, dataAt, keyIn, many, place, wordsOf, recordState, state}
 use Rattle.pairs.specs.Pairs.{Long, Has}
 use Rattle.pairs.specs.declared.Pairs.{Pairs}
 use Rattle.pairs.proofs.Moves.{long-fits}
-use Rattle.pairs.proofs.Fields.{has-live, has-state}
+use Rattle.fields.proofs.Fields.{has-live, has-state}
 use Rattle.lists.specs.Lists.{kindOf, lengthOf, listed, Loaded}
 use Rattle.lists.specs.declared.WordList.{WordList}
 use Rattle.lists.specs.declared.WordList.the-variants.{Short, Spilled}

@@ -4,7 +4,7 @@ ghost use mathlib.Core.Path.{_≡_};
 ghost use Prim.Native.Nat.{_<_};
 ghost use lib.ListN.{length};
 ghost use Rattle.runs.specs.Parts.{nth};
-ghost use Rattle.numbers.specs.Cells.{cells};
+ghost use Rattle.cells.specs.Cells.{cells};
 ghost use Rattle.pairs.specs.View.{state};
 ghost use Rattle.pairs.specs.Pairs.{Has};
 ghost use Rattle.lists.specs.Lists.{kindOf, lengthOf, Loaded};
@@ -45,18 +45,18 @@ fn kind(n: u64, place: u64) -> WordList
 }
 
 // The state of a pair that has the record r.
-pub fn load(room: &[u8], p: Pairs, key: u64, r: usize) -> PairState
+fn load(room: &[u8], p: Pairs, key: u64, r: usize) -> PairState
     requires { ⌜ Has p key r (cells (now room)) ⌝ }
     ensures { λ s. ⌜ Loaded p key (cells (now (room .entry))) s ⌝ }
 {
     let at = p.base + 2 * p.cap;
-    let n = arena::get_field(room, at, p.most, r, 3);
-    let a = arena::get_field(room, at, p.most, r, 4);
-    let b = arena::get_field(room, at, p.most, r, 5);
-    let c = arena::get_field(room, at, p.most, r, 6);
-    let d = arena::get_field(room, at, p.most, r, 7);
-    let count = pairs::count(room, p, key, r);
-    let marks = pairs::marks(room, p, key, r);
+    let n = records::get_field(room, at, p.most, r, 3);
+    let a = records::get_field(room, at, p.most, r, 4);
+    let b = records::get_field(room, at, p.most, r, 5);
+    let c = records::get_field(room, at, p.most, r, 6);
+    let d = records::get_field(room, at, p.most, r, 7);
+    let count = fields::count(room, p, key, r);
+    let marks = fields::marks(room, p, key, r);
     let words = kind(n, a);
     PairState {
         count: count,
@@ -72,12 +72,12 @@ pub fn word_at(room: &[u8], p: Pairs, key: u64, r: usize, j: usize) -> u64
     ensures { λ w. ⌜ w ≡ nth (state p (cells (now (room .entry))) key .words) j ⌝ }
 {
     let at = p.base + 2 * p.cap;
-    let n = arena::get_field(room, at, p.most, r, 3);
+    let n = records::get_field(room, at, p.most, r, 3);
     if n <= 4 {
-        return numbers::cell(room, at + 3 + r * 8 + 4 + j);
+        return cells::cell(room, at + 3 + r * 8 + 4 + j);
     }
-    let place = arena::get_field(room, at, p.most, r, 4) as usize;
-    numbers::cell(room, at + 3 + p.most * 8 + 2 + place + j)
+    let place = records::get_field(room, at, p.most, r, 4) as usize;
+    cells::cell(room, at + 3 + p.most * 8 + 2 + place + j)
 }
 
 // How many words its list has.

@@ -12,8 +12,7 @@ use Rattle.rule.specs.Rewriting.{rewrite, rewrites}
 use Rattle.rule.specs.Sums.{inUse}
 use Rattle.rule.specs.Training.{rewriteAll}
 use Rattle.rule.proofs.Rewriting.{length-rewrite}
-use Rattle.word.specs.Layout.{symbolIn, symbolsAt, endAt, line, lines, corpus, entryAt, Words, Numbers}
-use Rattle.word.specs.Pushing.{Placed}
+use Rattle.word.specs.Layout.{symbolIn, symbolsAt, endAt, line, lines, corpus, entryAt, Words, Numbers, Placed}
 use Rattle.word.specs.declared.WordSet.{WordSet}
 use Rattle.word.proofs.Views.{symbols-length, corpus-length, line-same}
 use Rattle.word.proofs.Sets.{word-symbols, inLine-shorter}

@@ -5,7 +5,7 @@ ghost use mathlib.Core.Path.{_≡_};
 ghost use Prim.Native.Nat.{_+_, _<_, _≤_};
 ghost use lib.ListN.{length};
 ghost use Rattle.runs.specs.Parts.{nth};
-ghost use Rattle.numbers.specs.Cells.{cells};
+ghost use Rattle.cells.specs.Cells.{cells};
 ghost use Rattle.word.specs.Layout.{symbolsAt, Words};
 ghost use Rattle.merge.specs.Cells.{leaves, Looked, Rewritten, RewrittenWord};
 ghost use Rattle.merge.specs.Merging.{MergedWord, MergedAll};
@@ -54,7 +54,7 @@ pub fn left_by(room: &[u8], at: usize, st: step::Step) -> u64
     ensures { λ r. ⌜ r ≡ leaves st (nth (cells (now (room .entry))) at) ⌝ }
 {
     if st.took == 1 {
-        return numbers::cell(room, at);
+        return cells::cell(room, at);
     }
     st.symbol as u64
 }
@@ -71,7 +71,7 @@ fn rewrite_run(room: &mut [u8], start: usize, n: usize, a: u32, b: u32, x: u32) 
     while 0 < left {
         let st = look(room, at, left, false, 0, a, b, x);
         let c = left_by(room, at, st);
-        numbers::put_cell(room, start + kept, c);
+        cells::put_cell(room, start + kept, c);
         at += st.took;
         left -= st.took;
         kept += 1;
@@ -85,18 +85,18 @@ fn rewrite_word(room: &mut [u8], s: usize, n: usize, a: u32, b: u32, x: u32) -> 
     ensures { λ m. ⌜ RewrittenWord a b x s n (cells (now (room .entry))) (cells (now (room .exit))) m ⌝ }
 {
     let m = rewrite_run(room, s + 2, n, a, b, x);
-    numbers::put_cell(room, s + 1, m as u64);
+    cells::put_cell(room, s + 1, m as u64);
     m
 }
 
 // Rewrites (a,b) to x in word k of the set.
-pub fn merge(room: &mut [u8], w: word::WordSet, k: usize, a: u32, b: u32, x: u32) -> Merged
+fn merge(room: &mut [u8], w: word::WordSet, k: usize, a: u32, b: u32, x: u32) -> Merged
     requires { ⌜ Words w (cells (now room)) ⌝ }
     requires { ⌜ k < w .count ⌝ }
     ensures { λ r. ⌜ MergedWord a b x w k (cells (now (room .entry))) (cells (now (room .exit))) r ⌝ }
 {
     let s = word::place(room, w, k);
-    let n = numbers::cell(room, s + 1) as usize;
+    let n = cells::cell(room, s + 1) as usize;
     let m = rewrite_word(room, s, n, a, b, x);
     Merged {
         words: word::WordSet {

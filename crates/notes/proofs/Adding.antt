@@ -12,14 +12,14 @@ use Rattle.runs.proofs.Parts.{nth-put, nth-put-other, part-more, part-ext}
 use Rattle.runs.proofs.Frames.{kept-none, kept-put, kept-wide}
 use Rattle.index.specs.Index.{SameIndex}
 use Rattle.index.proofs.Clients.{index-kept}
-use Rattle.arena.specs.Arena.{field, taken, free, CanPut, FieldPut}
+use Rattle.records.specs.Records.{field, taken, free, CanPut, FieldPut}
 use Rattle.states.specs.State.{lastIs, noted}
 use Rattle.pairs.specs.View.{arenaAt, listsAt, dataAt, behind, recordOf, many, place, capacity, wordsOf, recordState, state, top, credit, spent}
 use Rattle.pairs.specs.Pairs.{Tied, Run, Long, Has}
 use Rattle.pairs.specs.declared.Pairs.{Pairs}
 use Rattle.pairs.proofs.Moves.{Moved, state-has, moved-state, moved-spent, moved-ok}
 use Rattle.notes.specs.Notes.{withNote, withMore, CanNote, Noted, AddShort, AddLong, Still, Ready}
-use Rattle.pairs.proofs.Fields.{has-key, has-live, has-state}
+use Rattle.fields.proofs.Fields.{has-key, has-live, has-state}
 use Rattle.lists.proofs.Reading.{near-cell, words-short}
 use Rattle.notes.proofs.Credits.{credit-short, credit-long}
 use Rattle.notes.proofs.Steps.{top-cell, still-then, field-past, field-still, beyond-field, beyond-live, beyond-still}

@@ -8,13 +8,13 @@ use lib.ListN.{length}
 use Rattle.runs.specs.Parts.{nth, put, part, laid, Kept}
 use Rattle.runs.proofs.Parts.{nth-put, nth-put-other, length-part, part-ext, part-laid}
 use Rattle.runs.proofs.Frames.{kept-put, kept-laid}
-use Rattle.arena.specs.Arena.{field, CanPut, FieldPut}
+use Rattle.records.specs.Records.{field, CanPut, FieldPut}
 use Rattle.pairs.specs.View.{arenaAt, listsAt, dataAt, many, place, state, top, credit}
 use Rattle.pairs.specs.Pairs.{Long, Has}
 use Rattle.pairs.specs.declared.Pairs.{Pairs}
 use Rattle.pairs.proofs.Moves.{top-most}
 use Rattle.notes.specs.Notes.{AddLong, Still, CanMove, MovedList, Ready}
-use Rattle.pairs.proofs.Fields.{has-live, has-record}
+use Rattle.fields.proofs.Fields.{has-live, has-record}
 use Rattle.lists.proofs.Reading.{has-long, words-short, words-long, run-fits}
 use Rattle.notes.proofs.Credits.{credit-short, credit-long, credit-space}
 use Rattle.notes.proofs.Steps.{top-cell, still-none, still-then, field-past, field-still, beyond-still}

@@ -6,8 +6,8 @@ use Prim.Native.Nat.{ℕ, _+_, _<_, _≤_}
 use native.Mathlib.Omega.{arith}
 use Rattle.runs.specs.Parts.{nth, Kept}
 use Rattle.runs.proofs.Frames.{kept-none, kept-then, kept-wide}
-use Rattle.arena.specs.Arena.{field, Live, CanPut, FieldPut, SameArena}
-use Rattle.arena.proofs.Frames.{arena-kept}
+use Rattle.records.specs.Records.{field, Live, CanPut, FieldPut, SameArena}
+use Rattle.records.proofs.Frames.{arena-kept}
 use Rattle.pairs.specs.View.{arenaAt, listsAt, behind, top, made}
 use Rattle.pairs.specs.declared.Pairs.{Pairs}
 use Rattle.notes.specs.Notes.{Still}

@@ -5,7 +5,7 @@ use mathlib.Core.Logic.{_⊎_}
 use Prim.Native.Nat.{ℕ, _+_, _-_, _*_, _<_, _≤_}
 use lib.ListN.{length}
 use Rattle.runs.specs.Parts.{nth, part, Kept}
-use Rattle.arena.specs.Arena.{field, Live}
+use Rattle.records.specs.Records.{field, Live}
 use Rattle.states.specs.State.{State, noted, Change}
 use Rattle.pairs.specs.View.{arenaAt, dataAt, behind, recordOf, many, place, capacity, state, top, made, credit, spent}
 use Rattle.pairs.specs.Pairs.{Long, Has}

@@ -1,7 +1,7 @@
 // A word noted in a pair's list. A list that stands in the pair's record moves to a run of cells with its fifth word, and one that has
 // filled its run to one of twice the capacity.
 ghost use mathlib.Core.Path.{_≡_};
-ghost use Rattle.numbers.specs.Cells.{cells};
+ghost use Rattle.cells.specs.Cells.{cells};
 ghost use Rattle.states.specs.State.{lastIs};
 ghost use Rattle.pairs.specs.View.{state};
 ghost use Rattle.pairs.specs.Pairs.{Has};
@@ -13,7 +13,7 @@ fn seen(room: &[u8], p: Pairs, key: u64, r: usize, w: u64) -> bool
     requires { ⌜ Has p key r (cells (now room)) ⌝ }
     ensures { λ b. ⌜ b ≡ lastIs w (state p (cells (now (room .entry))) key .words) ⌝ }
 {
-    let n = arena::get_field(room, p.base + 2 * p.cap, p.most, r, 3) as usize;
+    let n = records::get_field(room, p.base + 2 * p.cap, p.most, r, 3) as usize;
     if n == 0 {
         return false;
     }
@@ -27,9 +27,9 @@ fn add_short(room: &mut [u8], p: Pairs, key: u64, r: usize, n: usize, w: u64)
     ensures { λ _. ⌜ Noted p key r (withMore w (state p (cells (now (room .entry))) key)) (cells (now (room .entry))) (cells (now (room .exit))) ⌝ }
 {
     let at = p.base + 2 * p.cap;
-    arena::put_field(room, at, p.most, r, 4 + n, w);
+    records::put_field(room, at, p.most, r, 4 + n, w);
     let more = (n + 1) as u64;
-    arena::put_field(room, at, p.most, r, 3, more);
+    records::put_field(room, at, p.most, r, 3, more);
 }
 
 // Moves the n words from the cell `from` on into a new run of `size` cells, which the record has from now on.
@@ -39,11 +39,11 @@ fn move_list(room: &mut [u8], p: Pairs, key: u64, r: usize, from: usize, n: usiz
 {
     let at = p.base + 2 * p.cap;
     let lists = at + 3 + p.most * 8;
-    let top = numbers::cell(room, lists) as usize;
-    numbers::copy_cells(room, lists + 2 + top, from, n);
-    numbers::put_cell(room, lists, (top + size) as u64);
-    arena::put_field(room, at, p.most, r, 4, top as u64);
-    arena::put_field(room, at, p.most, r, 5, size as u64);
+    let top = cells::cell(room, lists) as usize;
+    cells::copy_cells(room, lists + 2 + top, from, n);
+    cells::put_cell(room, lists, (top + size) as u64);
+    records::put_field(room, at, p.most, r, 4, top as u64);
+    records::put_field(room, at, p.most, r, 5, size as u64);
 }
 
 // Sees to it that the n words stand in a run that has space for one more.
@@ -56,9 +56,9 @@ fn widen(room: &mut [u8], p: Pairs, key: u64, r: usize, n: usize)
         move_list(room, p, key, r, at + 3 + r * 8 + 4, 4, 8);
         return;
     }
-    let size = arena::get_field(room, at, p.most, r, 5) as usize;
+    let size = records::get_field(room, at, p.most, r, 5) as usize;
     if n == size {
-        let place = arena::get_field(room, at, p.most, r, 4) as usize;
+        let place = records::get_field(room, at, p.most, r, 4) as usize;
         move_list(room, p, key, r, at + 3 + p.most * 8 + 2 + place, n, 2 * n);
     }
 }
@@ -70,9 +70,9 @@ fn add_long(room: &mut [u8], p: Pairs, key: u64, r: usize, n: usize, w: u64)
 {
     widen(room, p, key, r, n);
     let at = p.base + 2 * p.cap;
-    let place = arena::get_field(room, at, p.most, r, 4) as usize;
-    numbers::put_cell(room, at + 3 + p.most * 8 + 2 + place + n, w);
-    arena::put_field(room, at, p.most, r, 3, (n + 1) as u64);
+    let place = records::get_field(room, at, p.most, r, 4) as usize;
+    cells::put_cell(room, at + 3 + p.most * 8 + 2 + place + n, w);
+    records::put_field(room, at, p.most, r, 3, (n + 1) as u64);
 }
 
 // Notes the word w in the list of a pair, unless it was noted last.
@@ -83,7 +83,7 @@ pub fn note(room: &mut [u8], p: Pairs, key: u64, r: usize, w: u64)
     if seen(room, p, key, r, w) {
         return;
     }
-    let n = arena::get_field(room, p.base + 2 * p.cap, p.most, r, 3) as usize;
+    let n = records::get_field(room, p.base + 2 * p.cap, p.most, r, 3) as usize;
     if n < 4 {
         add_short(room, p, key, r, n, w);
     } else {

@@ -1,14 +1,10 @@
-// Little-endian numbers of 2, 4 and 8 bytes at any place of a run, and a run as a room of 64-bit
-// cells. Each function compiles to the machine's own load or store.
+// Little-endian numbers of 4 and 8 bytes at any place of a run. Each function compiles to the machine's own load or store.
 //
-// A bound is always stated as `place + width ≤ length of the run`, for a cell as
-// `place < number of cells`.
+// A bound is always stated as `place + width ≤ length of the run`.
 ghost use mathlib.Core.Path.{_≡_};
-ghost use Prim.Native.Nat.{_+_, _*_, _<_, _≤_};
+ghost use Prim.Native.Nat.{_+_, _<_, _≤_};
 ghost use lib.ListN.{length};
-ghost use Rattle.runs.specs.Parts.{nth, part, zeros};
 ghost use Rattle.numbers.specs.Little.{load, store};
-ghost use Rattle.numbers.specs.Cells.{cells, Put, Laid};
 
 // A byte as a number of 16 bits.
 fn wide(x: u8) -> u16
@@ -18,7 +14,7 @@ fn wide(x: u8) -> u16
 }
 
 // The number of 2 bytes at `at`.
-pub fn load2(run: &[u8], at: usize) -> u16
+fn load2(run: &[u8], at: usize) -> u16
     requires { ⌜ at + 2 ≤ length (now run) ⌝ }
     ensures { λ r. ⌜ r ≡ load 2 (now (run .entry)) at ⌝ }
 {
@@ -42,7 +38,7 @@ pub fn load8(run: &[u8], at: usize) -> u64
 }
 
 // Puts v in the 2 bytes at `at`.
-pub fn store2(run: &mut [u8], at: usize, v: u16)
+fn store2(run: &mut [u8], at: usize, v: u16)
     requires { ⌜ at + 2 ≤ length (now run) ⌝ }
     ensures { λ _. ⌜ now (run .exit) ≡ store 2 (now (run .entry)) at v ⌝ }
 {
@@ -66,36 +62,4 @@ pub fn store8(run: &mut [u8], at: usize, v: u64)
 {
     store4(run, at, (v % 0x1_0000_0000) as u32);
     store4(run, at + 4, (v / 0x1_0000_0000) as u32);
-}
-
-// The cell i.
-pub fn cell(room: &[u8], i: usize) -> u64
-    requires { ⌜ i < length (cells (now room)) ⌝ }
-    ensures { λ r. ⌜ r ≡ nth (cells (now (room .entry))) i ⌝ }
-{
-    load8(room, i * 8)
-}
-
-// Puts v in the cell i.
-pub fn put_cell(room: &mut [u8], i: usize, v: u64)
-    requires { ⌜ i < length (cells (now room)) ⌝ }
-    ensures { λ _. ⌜ Put (now (room .entry)) (now (room .exit)) i v ⌝ }
-{
-    store8(room, i * 8, v);
-}
-
-// Sets n cells from `at` on to 0.
-pub fn clear_cells(room: &mut [u8], at: usize, n: usize)
-    requires { ⌜ at + n ≤ length (cells (now room)) ⌝ }
-    ensures { λ _. ⌜ Laid (now (room .entry)) (now (room .exit)) at (zeros (n * 8)) (zeros n) ⌝ }
-{
-    runs::clear(room, at * 8, n * 8);
-}
-
-// Copies n cells from `from` on to `at`, where the two parts may overlap.
-pub fn copy_cells(room: &mut [u8], at: usize, from: usize, n: usize)
-    requires { ⌜ (at + n ≤ length (cells (now room))) × (from + n ≤ length (cells (now room))) ⌝ }
-    ensures { λ _. ⌜ Laid (now (room .entry)) (now (room .exit)) at (part (from * 8) (n * 8) (now (room .entry))) (part from n (cells (now (room .entry)))) ⌝ }
-{
-    runs::copy_within(room, at * 8, from * 8, n * 8);
 }

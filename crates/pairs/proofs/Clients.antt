@@ -8,9 +8,9 @@ use lib.ListN.{length}
 use Rattle.runs.specs.Parts.{nth, Kept}
 use Rattle.index.specs.Index.{SameIndex, Empty as EmptyIndex}
 use Rattle.index.proofs.Clients.{index-same, index-empty}
-use Rattle.arena.specs.Arena.{taken, free, SameArena}
-use Rattle.arena.proofs.Frames.{arena-same, empty-taken, empty-free, arena-empty}
-use Rattle.arena.proofs.Laws.{field-none}
+use Rattle.records.specs.Records.{taken, free, SameArena}
+use Rattle.records.proofs.Frames.{arena-same, empty-taken, empty-free, arena-empty}
+use Rattle.records.proofs.Laws.{field-none}
 use Rattle.states.specs.State.{State}
 use Rattle.pairs.specs.View.{arenaAt, listsAt, dataAt, behind, recordOf, keyIn, many, place, state, top, made, sum, credit, spent}
 use Rattle.pairs.specs.Pairs.{Long, Pairing, Has, SamePairs, Empty}

@@ -10,8 +10,9 @@ use Rattle.runs.proofs.Parts.{same-or-not, part-none}
 use Rattle.runs.proofs.Frames.{kept-then, kept-wide}
 use Rattle.index.specs.Index.{idle, CanInsert, Inserted, SameIndex}
 use Rattle.index.proofs.Clients.{index-kept}
-use Rattle.arena.specs.Arena.{field, CanClaim, Alloc, SameArena}
-use Rattle.arena.proofs.Frames.{arena-kept}
+use Rattle.records.specs.Records.{field, SameArena}
+use Rattle.arena.specs.Claims.{CanClaim, Alloc}
+use Rattle.records.proofs.Frames.{arena-kept}
 use Rattle.states.specs.State.{blank}
 use Rattle.pairs.specs.View.{arenaAt, listsAt, behind, recordOf, keyIn, many, wordsOf, recordState, state, top, made, credit, spent}
 use Rattle.pairs.specs.Pairs.{Pairing, CanEnter, Entered, Asked, CanMake, Made}

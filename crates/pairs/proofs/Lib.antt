@@ -1,7 +1,6 @@
--- The laws of `pairs`: a change of one record, no change, an entry, a removal, a field put, and what a client goes by.
+-- The laws of `pairs`: a change of one record, no change, an entry, a removal, and what a client goes by.
 pub mod Moves
 pub mod Still
 pub mod Entries
 pub mod Removals
-pub mod Fields
 pub mod Clients

@@ -12,8 +12,8 @@ use lib.ListN.{length}
 use Rattle.runs.specs.Parts.{nth, part}
 use Rattle.runs.proofs.Parts.{same-or-not, part-ext}
 use Rattle.index.specs.Index.{Index, vacant, idle}
-use Rattle.arena.specs.Arena.{Arena, field, taken, free}
-use Rattle.arena.proofs.Laws.{field-of, field-low}
+use Rattle.records.specs.Records.{Arena, field, taken, free}
+use Rattle.records.proofs.Laws.{field-of, field-low}
 use Rattle.states.specs.State.{blank}
 use Rattle.pairs.specs.View.{arenaAt, dataAt, behind, recordOf, keyIn, many, place, capacity, wordsOf, recordState, state, top, made, sum, credit, spent}
 use Rattle.pairs.specs.Pairs.{Tied, Run, Long, Pairing}

@@ -8,8 +8,9 @@ use Rattle.runs.specs.Parts.{Kept}
 use Rattle.runs.proofs.Frames.{kept-none, kept-then, kept-wide}
 use Rattle.index.specs.Index.{CanErase, Erased, SameIndex}
 use Rattle.index.proofs.Clients.{index-kept, idle-lt}
-use Rattle.arena.specs.Arena.{CanRelease, Released, SameArena}
-use Rattle.arena.proofs.Frames.{arena-kept}
+use Rattle.records.specs.Records.{SameArena}
+use Rattle.arena.specs.Claims.{CanRelease, Released}
+use Rattle.records.proofs.Frames.{arena-kept}
 use Rattle.pairs.specs.View.{arenaAt, listsAt, behind, recordOf, top, made, spent}
 use Rattle.pairs.specs.Pairs.{Tied, Pairing, Removed}
 use Rattle.pairs.specs.declared.Pairs.{Pairs}

@@ -10,8 +10,8 @@ use Rattle.runs.proofs.Parts.{nth-put}
 use Rattle.runs.proofs.Frames.{kept-put, kept-wide}
 use Rattle.index.specs.Index.{SameIndex}
 use Rattle.index.proofs.Clients.{index-kept}
-use Rattle.arena.specs.Arena.{SameArena}
-use Rattle.arena.proofs.Frames.{arena-kept}
+use Rattle.records.specs.Records.{SameArena}
+use Rattle.records.proofs.Frames.{arena-kept}
 use Rattle.pairs.specs.View.{arenaAt, listsAt, dataAt, behind, many, place, state, top, made, credit, spent}
 use Rattle.pairs.specs.Pairs.{Long, Pairing, Asked}
 use Rattle.pairs.specs.declared.Pairs.{Pairs}

@@ -6,7 +6,7 @@ use Prim.Native.Nat.{ℕ, _+_, _*_, _<_, _≤_}
 use lib.ListN.{length}
 use Rattle.runs.specs.Parts.{Kept}
 use Rattle.index.specs.Index.{Index, vacant, idle}
-use Rattle.arena.specs.Arena.{Arena, taken, free}
+use Rattle.records.specs.Records.{Arena, taken, free}
 use Rattle.states.specs.State.{State, blank, Change}
 use Rattle.pairs.specs.View.{arenaAt, behind, recordOf, keyIn, many, place, capacity, state, top, made, spent}
 use Rattle.pairs.specs.declared.Pairs.{Pairs}

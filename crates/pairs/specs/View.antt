@@ -6,7 +6,7 @@ use Prim.Native.Nat.{ℕ, zero, suc, _+_, _-_, _*_, _%_}
 use lib.Dec.{eqb, ltb}
 use Rattle.runs.specs.Parts.{nth, part}
 use Rattle.index.specs.Index.{value}
-use Rattle.arena.specs.Arena.{field}
+use Rattle.records.specs.Records.{field}
 use Rattle.states.specs.State.{State, blank}
 use Rattle.pairs.specs.declared.Pairs.{Pairs}
 

@@ -2,9 +2,9 @@
 // behind these. A pair is its key, left * 2^32 + right + 1.
 ghost use mathlib.Core.Path.{_≡_};
 ghost use Prim.Native.Nat.{_<_};
-ghost use Rattle.numbers.specs.Cells.{cells};
-ghost use Rattle.pairs.specs.View.{recordOf, keyIn, state, made};
-ghost use Rattle.pairs.specs.Pairs.{Pairing, Has, CanEnter, Entered, Asked, CanMake, Made, Removed, Updated};
+ghost use Rattle.cells.specs.Cells.{cells};
+ghost use Rattle.pairs.specs.View.{recordOf, made};
+ghost use Rattle.pairs.specs.Pairs.{Pairing, CanEnter, Entered, Asked, CanMake, Made, Removed};
 
 // The index has `cap` slots from the cell `base` on; there is place for `most` records.
 pub struct Pairs {
@@ -27,8 +27,8 @@ fn ask(room: &mut [u8], p: Pairs)
     ensures { λ _. ⌜ Asked p (cells (now (room .entry))) (cells (now (room .exit))) ⌝ }
 {
     let at = p.base + 2 * p.cap + 3 + p.most * 8 + 1;
-    let m = numbers::cell(room, at);
-    numbers::put_cell(room, at, m + 1);
+    let m = cells::cell(room, at);
+    cells::put_cell(room, at, m + 1);
 }
 
 // Makes a record for a pair that has none.
@@ -65,46 +65,4 @@ pub fn remove(room: &mut [u8], p: Pairs, key: u64)
     }
     index::erase(room, p.base, p.cap, key);
     arena::release(room, p.base + 2 * p.cap, p.most, (v - 1) as usize);
-}
-
-// The key of a record.
-pub fn key_of(room: &[u8], p: Pairs, r: usize) -> u64
-    requires { ⌜ (Pairing p (cells (now room))) × (0 < keyIn p (cells (now room)) r) ⌝ }
-    ensures { λ k. ⌜ k ≡ keyIn p (cells (now (room .entry))) r ⌝ }
-{
-    arena::get_field(room, p.base + 2 * p.cap, p.most, r, 0)
-}
-
-// The count of a pair that has the record r.
-pub fn count(room: &[u8], p: Pairs, key: u64, r: usize) -> u64
-    requires { ⌜ Has p key r (cells (now room)) ⌝ }
-    ensures { λ v. ⌜ v ≡ state p (cells (now (room .entry))) key .count ⌝ }
-{
-    arena::get_field(room, p.base + 2 * p.cap, p.most, r, 1)
-}
-
-// Its marks.
-pub fn marks(room: &[u8], p: Pairs, key: u64, r: usize) -> u8
-    requires { ⌜ Has p key r (cells (now room)) ⌝ }
-    ensures { λ v. ⌜ v ≡ state p (cells (now (room .entry))) key .marks ⌝ }
-{
-    (arena::get_field(room, p.base + 2 * p.cap, p.most, r, 2) % 256) as u8
-}
-
-// Sets its count.
-pub fn set_count(room: &mut [u8], p: Pairs, key: u64, r: usize, v: u64)
-    requires { ⌜ Has p key r (cells (now room)) ⌝ }
-    ensures { λ _. ⌜ Updated p key r (record { count = v; marks = state p (cells (now (room .entry))) key .marks; words = state p (cells (now (room .entry))) key .words })
-        (cells (now (room .entry))) (cells (now (room .exit))) ⌝ }
-{
-    arena::put_field(room, p.base + 2 * p.cap, p.most, r, 1, v);
-}
-
-// Sets its marks.
-pub fn set_marks(room: &mut [u8], p: Pairs, key: u64, r: usize, v: u8)
-    requires { ⌜ Has p key r (cells (now room)) ⌝ }
-    ensures { λ _. ⌜ Updated p key r (record { count = state p (cells (now (room .entry))) key .count; marks = v; words = state p (cells (now (room .entry))) key .words })
-        (cells (now (room .entry))) (cells (now (room .exit))) ⌝ }
-{
-    arena::put_field(room, p.base + 2 * p.cap, p.most, r, 2, v as u64);
 }

@@ -12,8 +12,7 @@ use Rattle.rule.specs.Seeding.{Entry}
 use Rattle.rule.specs.Sums.{Under, AllUnder}
 use Rattle.rule.specs.Training.{count, within, better, best, candidatesIn, candidates, choose}
 use Rattle.rule.specs.Training as rule
-use Rattle.word.specs.Layout.{symbolIn, symbolsAt, corpus, entryAt}
-use Rattle.word.specs.Pushing.{Found}
+use Rattle.word.specs.Layout.{symbolIn, symbolsAt, corpus, entryAt, Found}
 use Rattle.word.specs.declared.WordSet.{WordSet}
 use Rattle.word.specs.declared.Span.{Span}
 use Rattle.word.proofs.Views.{symbols-length, symbols-two, symbols-next, corpus-length, drop-entry, under-at}

@@ -3,7 +3,7 @@
 ghost use mathlib.Core.Path.{_≡_};
 ghost use mathlib.Core.Bool.{true, cond};
 ghost use Prim.Native.Nat.{_<_};
-ghost use Rattle.numbers.specs.Cells.{cells};
+ghost use Rattle.cells.specs.Cells.{cells};
 ghost use Rattle.marks.specs.Marks.{touched, gained, marking};
 ghost use Rattle.step.specs.Step.{reportsOf};
 ghost use Rattle.states.specs.State.{most};
@@ -35,14 +35,14 @@ fn touch(room: &mut [u8], p: Pairs, key: u64, r: usize, n: usize, gain: bool) ->
     requires { ⌜ CanTouch p key r n (cells (now room)) ⌝ }
     ensures { λ m. ⌜ TouchDone p key r n gain (cells (now (room .entry))) (cells (now (room .exit))) m ⌝ }
 {
-    let was = pairs::marks(room, p, key, r);
+    let was = fields::marks(room, p, key, r);
     let is = mark(was, gain);
-    pairs::set_marks(room, p, key, r, is);
+    fields::set_marks(room, p, key, r, is);
     if marks::is_touched(was) {
         return n;
     }
     let at = p.base + 2 * p.cap + 3 + p.most * 8 + 2 + 4 * p.most;
-    numbers::put_cell(room, at + n, r as u64);
+    cells::put_cell(room, at + n, r as u64);
     n + 1
 }
 
@@ -53,8 +53,8 @@ pub fn raise(room: &mut [u8], p: Pairs, n: usize, left: u32, right: u32, f: u64,
 {
     let k = key(left, right);
     let r = pairs::entry(room, p, k);
-    let c = pairs::count(room, p, k, r);
-    pairs::set_count(room, p, k, r, c + f);
+    let c = fields::count(room, p, k, r);
+    fields::set_count(room, p, k, r, c + f);
     notes::note(room, p, k, r, w as u64);
     touch(room, p, k, r, n, true)
 }
@@ -67,8 +67,8 @@ fn lower(room: &mut [u8], p: Pairs, n: usize, left: u32, right: u32, f: u64) -> 
     let k = key(left, right);
     let v = pairs::find(room, p, k);
     let r = (v - 1) as usize;
-    let c = pairs::count(room, p, k, r);
-    pairs::set_count(room, p, k, r, c - f);
+    let c = fields::count(room, p, k, r);
+    fields::set_count(room, p, k, r, c - f);
     touch(room, p, k, r, n, false)
 }
 

@@ -10,7 +10,7 @@ use lib.ListN.{length, length-append}
 use lib.Seq.{append-snoc}
 use borrow.Author.Tests.{eqb-true, leb-true}
 use Rattle.runs.specs.Parts.{nth, Bytes}
-use Rattle.runs.specs.Order.{same}
+use Rattle.order.specs.Order.{same}
 use Rattle.numbers.specs.Little.{numbers}
 use Rattle.rfc3629.specs.Cut.{singles}
 use Rattle.rule.specs.Shapes.{wholes, parts, partsBy, riseTo, shaped, some?}
@@ -19,8 +19,8 @@ use Rattle.rule.specs.Spelling.{prefixed, suffixed, decorate}
 use Rattle.rule.specs.Seeding.{decorated, intern, byteValues, distinct, firstSeeds, seeds}
 use Rattle.rule.specs.Layout.{pieceBytes}
 use Rattle.runs.proofs.Parts.{same-or-not, part-short}
-use Rattle.runs.proofs.Ordered.{same-refl, same-true}
-use Rattle.numbers.proofs.Cells.{length-numbers}
+use Rattle.order.proofs.Ordered.{same-refl, same-true}
+use Rattle.numbers.proofs.Little.{length-numbers}
 use Rattle.rfc3629.proofs.Rows.{cond-elim}
 use Rattle.rfc3629.proofs.Texts.{seeded-bytes}
 use Rattle.rule.proofs.Order.{In, Apart, rising-apart, distinct-rises, distinct-in, distinct-has}

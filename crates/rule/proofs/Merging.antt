@@ -16,7 +16,7 @@ use Rattle.rule.specs.Layout.{pieceShape, pieceCount, pieceStart, pieceL
 use Rattle.rule.specs.Refusals.{Verdict, says}
 use Rattle.rule.specs.Outcome.{short, told, reportBytes, lookUp, pieceOutcome, mergeVerdict, Merged, mergeOutcome}
 use Rattle.runs.proofs.Parts.{below-or-not, length-laid}
-use Rattle.numbers.proofs.Cells.{length-numbers}
+use Rattle.numbers.proofs.Little.{length-numbers}
 use Rattle.rule.proofs.Lengths.{length-spellAll, length-told, length-reports}
 use Rattle.rule.proofs.Rewriting.{length-rewrite}
 

@@ -10,14 +10,14 @@ use lib.ListN.{length, take, drop}
 use lib.Seq.{getD-drop}
 use borrow.Author.Tests.{ltb-true, lt-ltb, le-ltb}
 use Rattle.runs.specs.Parts.{nth, Bytes}
-use Rattle.runs.specs.Order.{same}
+use Rattle.order.specs.Order.{same}
 use Rattle.rfc3629.specs.Rfc3629.{Scalar, encode, decode, Char}
 use Rattle.rfc3629.specs.Rows.{charLen}
 use Rattle.rfc3629.specs.Cut.{unitLen, unitsBy, seeded, Short}
 use Rattle.rule.specs.Shapes.{parts, partsBy}
 use Rattle.rule.specs.Table.{Task, chars, units, unitsOf, wordUnits, total, U}
 use Rattle.runs.proofs.Parts.{same-or-not, part-bytes}
-use Rattle.runs.proofs.Ordered.{same-true, same-false}
+use Rattle.order.proofs.Ordered.{same-true, same-false}
 use Rattle.rfc3629.proofs.Numbers.{decode-scalar, encode-decode}
 use Rattle.rfc3629.proofs.Rows.{cond-elim, char-len}
 use Rattle.rfc3629.proofs.Units.{units-ind}

@@ -16,8 +16,7 @@ use Rattle.rule.specs.Layout.{pieceBytes, pieceRecords, pieceShape, piec
 use Rattle.rule.specs.Refusals.{says, verdict}
 use Rattle.rule.specs.Outcome.{trainOutcome, lookUp}
 use Rattle.runs.proofs.Parts.{part-mid}
-use Rattle.numbers.proofs.Little.{length-spell, little-spell}
-use Rattle.numbers.proofs.Cells.{length-numbers}
+use Rattle.numbers.proofs.Little.{length-spell, little-spell, length-numbers}
 use Rattle.rule.specs.Sums.{Under}
 use Rattle.rule.proofs.Lengths.{length-spellAll, length-flat, length-pieceRecords}
 use Rattle.rule.proofs.Judged.{accepts}

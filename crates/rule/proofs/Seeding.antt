@@ -6,12 +6,12 @@ use mathlib.Core.Logic.{_≢_}
 use Prim.Native.Nat.{ℕ, zero, suc, _<_}
 use native.Mathlib.Omega.{arith}
 use lib.ListN.{length, getD}
-use Rattle.runs.specs.Order.{same}
+use Rattle.order.specs.Order.{same}
 use Rattle.rule.specs.Shapes.{some?, first}
 use Rattle.rule.specs.Table.{Task, frequencies, alphabet, wordUnits}
 use Rattle.rule.specs.Seeding.{decorated, numberOf, intern, firstSeeds, seeds, Entry, keep, keptWith, kept}
 use Rattle.rule.specs.Sums.{Under, AllUnder}
-use Rattle.runs.proofs.Ordered.{same-true, same-refl}
+use Rattle.order.proofs.Ordered.{same-true, same-refl}
 use Rattle.rfc3629.proofs.Rows.{cond-elim}
 
 -- a spelling is among the pieces

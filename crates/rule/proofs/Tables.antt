@@ -5,7 +5,7 @@ use Prim.Native.Nat.{ℕ, _-_, _/_, _%_}
 use lib.Dec.{eqb}
 use lib.ListN.{length, replicate}
 use Rattle.runs.specs.Parts.{part, laid, zeros}
-use Rattle.runs.specs.Order.{compared, same}
+use Rattle.order.specs.Order.{compared, same}
 use Rattle.numbers.specs.Little.{little, spell, load, loads, numbers}
 use Rattle.rfc3629.specs.Rows.{within as inRange, heads, tails, follow, byLead, charLen}
 use Rattle.rfc3629.specs.Cut.{goesOn, wellFormed, unitLen, unitsIn, unitsBy, seeded}

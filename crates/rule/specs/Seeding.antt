@@ -2,7 +2,7 @@
 use mathlib.Core.Bool.{cond}
 use mathlib.Core.List.{List, [], _∷_, _++_, map, flatMap, foldl}
 use Prim.Native.Nat.{ℕ, zero, suc}
-use Rattle.runs.specs.Order.{same}
+use Rattle.order.specs.Order.{same}
 use Rattle.rule.specs.Shapes.{below, some?, first}
 use Rattle.rule.specs.Table.{Task, chars, frequencies, alphabet, wordUnits}
 use Rattle.rule.specs.Spelling.{decorate}

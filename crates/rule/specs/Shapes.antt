@@ -5,9 +5,9 @@ use Prim.Native.Nat.{ℕ, suc, _+_, _-_, _%_}
 use lib.Dec.{eqb, leb}
 use lib.ListN.{length}
 use Rattle.runs.specs.Parts.{part, zeros}
-use Rattle.runs.specs.Order.{compared}
-use Rattle.runs.specs.declared.Order.{Order}
-use Rattle.runs.specs.declared.Order.the-variants.{Below, Same, Above}
+use Rattle.order.specs.Order.{compared}
+use Rattle.order.specs.declared.Order.{Order}
+use Rattle.order.specs.declared.Order.the-variants.{Below, Same, Above}
 use Rattle.numbers.specs.Little.{spell, numbers}
 
 -- "whole 4s", "whole 8s"

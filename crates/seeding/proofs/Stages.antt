@@ -7,8 +7,8 @@ use native.Mathlib.Omega.{arith}
 use lib.ListN.{length}
 use borrow.Author.Tests.{eq-eqb, ne-eqb}
 use Rattle.runs.specs.Parts.{zeros, Bytes}
-use Rattle.numbers.specs.Cells.{cells, Laid}
-use Rattle.numbers.proofs.Cells.{cells-small}
+use Rattle.cells.specs.Cells.{cells, Laid}
+use Rattle.cells.proofs.Cells.{cells-small}
 use Rattle.rule.specs.Shapes.{partsBy}
 use Rattle.rule.specs.Table.{alphabet, unitsOf, wordUnits}
 use Rattle.rule.specs.Seeding.{intern, byteValues, distinct, firstSeeds}

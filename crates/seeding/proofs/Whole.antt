@@ -10,8 +10,8 @@ use Rattle.runs.specs.Parts.{nth, zeros, Bytes, Kept}
 use Rattle.runs.proofs.Parts.{length-zeros, nth-laid, nth-zeros}
 use Rattle.runs.proofs.Frames.{kept-then, kept-wide, kept-laid}
 use Rattle.numbers.specs.Little.{numbers}
-use Rattle.numbers.specs.Cells.{cells, Laid}
-use Rattle.numbers.proofs.Cells.{length-cells, cells-small}
+use Rattle.cells.specs.Cells.{cells, Laid}
+use Rattle.cells.proofs.Cells.{length-cells, cells-small}
 use Rattle.rule.specs.Shapes.{partsBy}
 use Rattle.rule.specs.Table.{A, U, alphabet, frequencies, chars, unitsOf, wordUnits, total, roomFor}
 use Rattle.rule.specs.Seeding.{decorated, intern, firstSeeds, seeds, keptWith, kept}

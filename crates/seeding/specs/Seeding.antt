@@ -7,7 +7,7 @@ use Prim.Native.Nat.{ℕ, _+_, _*_, _/_, _<_, _≤_}
 use lib.ListN.{length}
 use Rattle.runs.specs.Parts.{Kept}
 use Rattle.numbers.specs.Little.{numbers}
-use Rattle.numbers.specs.Cells.{cells}
+use Rattle.cells.specs.Cells.{cells}
 use Rattle.rule.specs.Shapes.{partsBy, shaped}
 use Rattle.rule.specs.Table.{Task, A, U, chars, unitsOf, total, roomFor}
 use Rattle.rule.specs.Seeding.{intern, firstSeeds, seeds, keptWith, kept}

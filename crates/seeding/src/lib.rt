@@ -5,7 +5,7 @@
 // to the caller to clear.
 ghost use mathlib.Core.Path.{_≡_};
 ghost use Prim.Native.Nat.{_*_, _/_};
-ghost use Rattle.numbers.specs.Cells.{cells};
+ghost use Rattle.cells.specs.Cells.{cells};
 ghost use Rattle.rule.specs.Shapes.{partsBy};
 ghost use Rattle.rule.specs.Table.{unitsOf};
 ghost use Rattle.rule.specs.Seeding.{firstSeeds};
@@ -32,7 +32,7 @@ fn gather_units(
 {
     let at = layout::table_at(units);
     let slots = layout::slots_for(units);
-    numbers::clear_cells(room, at, 2 * slots);
+    cells::clear_cells(room, at, 2 * slots);
     units::gather(
         room,
         layout::units_at(units),
@@ -125,7 +125,7 @@ fn seed_rest(
     match r {
         Seeded::NoRoom => Encoded::NoRoom,
         Seeded::Done(c, u) => {
-            let set = word::empty(0, layout::words_at(units));
+            let set = pushing::empty(0, layout::words_at(units));
             encoding::seed_words(
                 room,
                 set,
@@ -169,7 +169,7 @@ pub fn seed(
     let base = layout::table_at(units);
     let first = count_first(room, words, word_ends, seeding, units);
     let cap = layout::spellings_for(first, alphabet_ends.len() / 4);
-    numbers::clear_cells(room, base, cap);
+    cells::clear_cells(room, base, cap);
     let r = seed_first(
         room,
         base,

@@ -2,7 +2,7 @@
 ghost use mathlib.Core.Path.{_≡_};
 ghost use Prim.Native.Nat.{_+_};
 ghost use Rattle.runs.specs.Parts.{nth};
-ghost use Rattle.numbers.specs.Cells.{cells};
+ghost use Rattle.cells.specs.Cells.{cells};
 ghost use Rattle.pairs.specs.View.{behind, keyIn};
 ghost use Rattle.settling.specs.Settling.{CanSettle, SettleDone, cleared, CanSettleOne, OneSettled, gainer, CanWait, Waits};
 use pairs::Pairs;
@@ -34,16 +34,16 @@ fn settle_one(room: &mut [u8], p: Pairs, q: usize, m: usize, j: usize) -> usize
         (cells (now (room .entry))) (cells (now (room .exit))) r ⌝ }
 {
     let list = p.base + 2 * p.cap + 3 + p.most * 8 + 2 + 4 * p.most;
-    let r = numbers::cell(room, list + j) as usize;
-    let key = pairs::key_of(room, p, r);
-    let count = pairs::count(room, p, key, r);
+    let r = cells::cell(room, list + j) as usize;
+    let key = fields::key_of(room, p, r);
+    let count = fields::count(room, p, key, r);
     if count == 0 {
         pairs::remove(room, p, key);
         return m;
     }
-    let v = pairs::marks(room, p, key, r);
+    let v = fields::marks(room, p, key, r);
     let left = clear(v);
-    pairs::set_marks(room, p, key, r, left);
+    fields::set_marks(room, p, key, r, left);
     wait(room, q, m, v, Candidate { count, key })
 }
 

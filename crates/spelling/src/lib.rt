@@ -29,7 +29,7 @@ fn has_prefix(piece: &[u8], prefix: &[u8]) -> bool
 }
 
 // The piece without its prefix, if it carries one: a part of the piece, and no part of the prefix.
-pub fn strip_prefix<'a, 'b>(piece: &'a [u8], prefix: &'b [u8]) -> &'a [u8]
+fn strip_prefix<'a, 'b>(piece: &'a [u8], prefix: &'b [u8]) -> &'a [u8]
     ensures { λ r. ⌜ now r ≡ stripPrefix (now (prefix .entry)) (now (piece .entry)) ⌝ }
 {
     if has_prefix(piece, prefix) {

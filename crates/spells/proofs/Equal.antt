@@ -8,7 +8,7 @@ use lib.Dec.{eqb}
 use lib.ListN.{length, take, drop, length-append, length-drop}
 use lib.Seq.{take-all}
 use borrow.Author.Tests.{not-true, not-false}
-use Rattle.runs.specs.Order.{same}
+use Rattle.order.specs.Order.{same}
 use Rattle.runs.proofs.Loops.{equal-lengths}
 
 pub same-cut : (a b p : List ℕ) → length a ≤ length p → same (a ++ b) p ≡ (same a (take (length a) p) && same b (drop (length a) p))

@@ -3,7 +3,7 @@
 ghost use mathlib.Core.Path.{_≡_};
 ghost use mathlib.Core.List.{_++_};
 ghost use Prim.Native.Nat.{_<_};
-ghost use Rattle.runs.specs.Order.{same};
+ghost use Rattle.order.specs.Order.{same};
 ghost use Rattle.spells.specs.Hash.{hashFrom, hashOf};
 
 // Tells whether two parts end to end are the bytes of a piece.
@@ -14,10 +14,10 @@ fn equal_two(a: &[u8], b: &[u8], piece: &[u8]) -> bool
     if piece.len() < n {
         return false;
     }
-    if !runs::equal(a, &piece[0..n]) {
+    if !order::equal(a, &piece[0..n]) {
         return false;
     }
-    runs::equal(b, &piece[n..])
+    order::equal(b, &piece[n..])
 }
 
 // Tells whether prefix, unit and suffix end to end are the bytes of a piece.
@@ -28,7 +28,7 @@ pub fn equal_three(prefix: &[u8], unit: &[u8], suffix: &[u8], piece: &[u8]) -> b
     if piece.len() < m {
         return false;
     }
-    if !runs::equal(prefix, &piece[0..m]) {
+    if !order::equal(prefix, &piece[0..m]) {
         return false;
     }
     equal_two(unit, suffix, &piece[m..])

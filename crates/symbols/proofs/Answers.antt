@@ -10,7 +10,7 @@ use borrow.Author.Tests.{eq-eqb, ne-eqb, lt-ltb, le-ltb}
 use Rattle.runs.specs.Parts.{zeros}
 use Rattle.runs.proofs.Parts.{length-zeros}
 use Rattle.numbers.specs.Little.{numbers}
-use Rattle.numbers.proofs.Cells.{length-numbers}
+use Rattle.numbers.proofs.Little.{length-numbers}
 use Rattle.rule.specs.Rewriting.{Span, src, before, after, reportsFrom, rewrite, rewrites, reports}
 use Rattle.rule.specs.Refusals.{Verdict, says}
 use Rattle.rule.specs.Outcome.{mergeVerdict, Merged}

@@ -10,8 +10,7 @@ use lib.Seq.{drop-drop, getD-drop}
 use Rattle.runs.specs.Parts.{nth}
 use Rattle.runs.proofs.Parts.{nth-past, nth-ext}
 use Rattle.numbers.specs.Little.{little, spell, load, store, numbers}
-use Rattle.numbers.proofs.Little.{length-spell}
-use Rattle.numbers.proofs.Cells.{length-numbers, nth-numbers}
+use Rattle.numbers.proofs.Little.{length-spell, length-numbers, nth-numbers}
 use Rattle.rule.specs.Shapes.{spellAll}
 use Rattle.rule.specs.Rewriting.{bit, cut, out, reportsFrom, rewrite, reports}
 use Rattle.rule.specs.Outcome.{reportBytes}

@@ -9,7 +9,7 @@ use lib.ListN.{length, length-map}
 use borrow.Author.Tests.{lt-ltb, le-ltb, le-leb, lt-leb, eq-eqb, ne-eqb}
 use Rattle.runs.proofs.Parts.{below-or-not}
 use Rattle.numbers.specs.Little.{numbers}
-use Rattle.numbers.proofs.Cells.{length-numbers}
+use Rattle.numbers.proofs.Little.{length-numbers}
 use Rattle.rule.specs.Shapes.{partsBy, first}
 use Rattle.rule.specs.Table.{Task, Rooms, wordCount, A, U, wordUnits, unitsOf, weighed, roomFor, workNeeded}
 use Rattle.rule.specs.Refusals as row

@@ -6,9 +6,9 @@ use Prim.Native.Nat.{ℕ, _+_, _-_, _/_, _≤_, _<_}
 use native.Mathlib.Omega.{arith}
 use lib.ListN.{length}
 use Rattle.runs.specs.Parts.{nth, part}
-use Rattle.runs.specs.Order.{compared}
-use Rattle.runs.specs.declared.Order as runs
-use Rattle.runs.specs.declared.Order.the-variants.{Below, Same, Above}
+use Rattle.order.specs.Order.{compared}
+use Rattle.order.specs.declared.Order as order
+use Rattle.order.specs.declared.Order.the-variants.{Below, Same, Above}
 use Rattle.numbers.specs.Little.{numbers}
 use Rattle.rule.specs.Shapes.{riseTo, shaped, parts, partsBy, isBelow, below, first}
 use Rattle.rule.specs.Refusals.{notAbove, misplaced}
@@ -19,7 +19,7 @@ use Rattle.table.proofs.Rows.{first-here, first-later}
 
 -- BYTE ORDER, by the cases of a comparison
 
-module _ (v w : List ℕ) (o : runs.Order) (e : o ≡ compared v w) where
+module _ (v w : List ℕ) (o : order.Order) (e : o ≡ compared v w) where
   pub below-below : o ≡ Below → true ≡ below v w
   unfolding below isBelow
   below-below h = rw (← e, h)

@@ -16,7 +16,7 @@ ghost use Rattle.rule.specs.Refusals.{badShape, tooMany, noFrequency, misplaced
 ghost use Rattle.table.specs.Weighing.{UnitsIn, Heavier, IsWeighed};
 ghost use Rattle.table.specs.Answers.{wordsAnswer, tableAnswer};
 use error::TrainError;
-use runs::Order;
+use order::Order;
 use text::Seeding;
 
 // The limits of row 2.
@@ -123,7 +123,7 @@ fn goes_up(words: &[u8], from: usize, to: usize, end: usize) -> bool
     requires { ⌜ (from ≤ to) × (to ≤ end) × (end ≤ length (now words)) ⌝ }
     ensures { λ r. ⌜ r ≡ below (part from (to - from) (now (words .entry))) (part to (end - to) (now (words .entry))) ⌝ }
 {
-    match runs::compare_within(words, from, to - from, to, end - to) {
+    match order::compare_within(words, from, to - from, to, end - to) {
         Order::Below => true,
         Order::Same => false,
         Order::Above => false,

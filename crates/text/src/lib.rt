@@ -126,7 +126,7 @@ fn count_chars(word: &[u8]) -> usize
 }
 
 // Tells whether the word from `from` to `to` is well formed.
-pub fn well_formed(s: &[u8], from: usize, to: usize) -> bool
+fn well_formed(s: &[u8], from: usize, to: usize) -> bool
     requires { ⌜ (from ≤ to) × (to ≤ length (now s)) ⌝ }
     ensures { λ r. ⌜ r ≡ wellFormed (part from (to - from) (now (s .entry))) ⌝ }
 {

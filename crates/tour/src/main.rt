@@ -4,7 +4,7 @@
 // give, so the run compares the two.
 ghost use Prim.Native.Nat.{_+_, _≤_};
 use libc::STDOUT_FILENO;
-use runs::Order;
+use order::Order;
 
 const VALUES: [u64; 8] = [
     0,
@@ -62,7 +62,7 @@ fn moved(at: usize, from: usize, n: usize)
 // Two words and how they stand.
 fn ordered(a: &[u8], b: &[u8]) {
     text(a);
-    match runs::compare(a, b) {
+    match order::compare(a, b) {
         Order::Below => text(b" < "),
         Order::Same => text(b" = "),
         Order::Above => text(b" > "),

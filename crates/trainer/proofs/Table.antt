@@ -9,8 +9,8 @@ use Rattle.runs.specs.Parts.{part, Bytes, Kept}
 use Rattle.runs.proofs.Parts.{length-part}
 use Rattle.runs.proofs.Frames.{kept-then, kept-wide}
 use Rattle.training.proofs.Turning.{laid-front}
-use Rattle.numbers.specs.Cells.{cells}
-use Rattle.numbers.proofs.Cells.{length-cells}
+use Rattle.cells.specs.Cells.{cells}
+use Rattle.cells.proofs.Cells.{length-cells}
 use Rattle.rule.specs.Table.{Task, Rooms, A, U, roomFor, alphabet, frequencies, wordUnits, weighed}
 use Rattle.rule.specs.Seeding.{decorated, seeds, kept}
 use Rattle.rule.specs.Training.{trainFrom, trained, allPieces}

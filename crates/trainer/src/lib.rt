@@ -5,7 +5,7 @@
 // what lies beyond the answer is 0, and a refusal sets all of them to 0 again. The work room is 0 in the end.
 ghost use mathlib.Core.Path.{_≡_};
 ghost use Prim.Native.Nat.{_≤_};
-ghost use Rattle.numbers.specs.Cells.{cells};
+ghost use Rattle.cells.specs.Cells.{cells};
 ghost use Rattle.rule.specs.Outcome.{wiped};
 ghost use Rattle.trainer.specs.Train.{taskOf, roomsOf, CanGrow, GrownDone, CanTrain, TableDone, RoomsDone, TrainDone};
 use encoding::Encoded;

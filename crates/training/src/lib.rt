@@ -2,7 +2,7 @@
 // size or no pair is left that counts enough.
 ghost use mathlib.Core.Path.{_≡_};
 ghost use Prim.Native.Nat.{_<_, _≤_, max};
-ghost use Rattle.numbers.specs.Cells.{cells};
+ghost use Rattle.cells.specs.Cells.{cells};
 ghost use Rattle.rule.specs.Layout.{pieceAt};
 ghost use Rattle.rule.specs.Spelling.{joined};
 ghost use Rattle.intern.specs.Pieces.{Held};

@@ -7,7 +7,7 @@ use lib.ListN.{length, drop-of-length-le}
 use lib.Seq.{drop-cons}
 use Rattle.runs.specs.Parts.{nth, part}
 use Rattle.numbers.specs.Little.{load, numbers}
-use Rattle.numbers.proofs.Cells.{length-numbers, nth-numbers}
+use Rattle.numbers.proofs.Little.{length-numbers, nth-numbers}
 use Rattle.rule.specs.Shapes.{parts, partsBy}
 use Rattle.vocab.specs.Places.{numbersFrom}
 

@@ -10,7 +10,7 @@ use borrow.Author.Tests.{not-true, not-false, lt-ltb, le-ltb, le-leb, lt-leb}
 use Rattle.runs.specs.Parts.{nth}
 use Rattle.runs.proofs.Parts.{part-lent-on}
 use Rattle.numbers.specs.Little.{numbers}
-use Rattle.numbers.proofs.Cells.{length-numbers}
+use Rattle.numbers.proofs.Little.{length-numbers}
 use Rattle.rule.specs.Shapes.{shaped}
 use Rattle.rule.specs.Layout.{pieceShape, pieceCount, pieceStart, pieceLength, pieceAt}
 use Rattle.rule.specs.Refusals.{Verdict, says}

@@ -91,7 +91,7 @@ pub fn look(pieces: &[u8], ends: &[u8], number: u64) -> Lookup
 }
 
 // The part of the pieces that an answer names: empty where it names none.
-pub fn part<'a>(pieces: &'a [u8], what: Lookup) -> &'a [u8]
+fn part<'a>(pieces: &'a [u8], what: Lookup) -> &'a [u8]
     requires { ⌜ Within what (length (now pieces)) ⌝ }
     ensures { λ r. ⌜ now r ≡ partOf (now (pieces .entry)) what ⌝ }
 {

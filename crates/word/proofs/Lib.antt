@@ -1,4 +1,3 @@
 -- The laws of `word`.
 pub mod Views
 pub mod Sets
-pub mod Pushing

@@ -9,8 +9,7 @@ use Rattle.runs.specs.Parts.{nth, part, Kept}
 use Rattle.runs.proofs.Frames.{kept-part}
 use Rattle.rule.specs.Seeding.{Entry}
 use Rattle.rule.specs.Sums.{inUse}
-use Rattle.word.specs.Layout.{symbolIn, symbolsAt, endAt, lines, corpus, entryAt, SameIn, InLine, Words, Numbers}
-use Rattle.word.specs.Pushing.{Placed, Found}
+use Rattle.word.specs.Layout.{symbolIn, symbolsAt, endAt, lines, corpus, entryAt, SameIn, InLine, Words, Numbers, Placed, Found}
 use Rattle.word.specs.declared.WordSet.{WordSet}
 use Rattle.word.proofs.Views.{symbols-length, symbols-same, corpus-none, corpus-cons, corpus-entry, corpus-lines, lines-same, line-same}
 

@@ -2,15 +2,14 @@
 -- A word at the cell s has its frequency in s, its length in s + 1, and its symbols from s + 2 on. The cell starts + k holds the place of word k,
 -- so that a word's number outlives a move. Words lie in order of their numbers; behind one's symbols there may be a gap, which merging left.
 use mathlib.Core.Path.{_≡_}
-use mathlib.Core.Bool.{Bool}
 use mathlib.Core.List.{List, [], _∷_, map}
-use Prim.Native.Nat.{ℕ, zero, suc, _+_, _-_, _*_, _%_, _^_, _≤_, _<_}
-use lib.Dec.{ltb}
+use Prim.Native.Nat.{ℕ, zero, suc, _+_, _%_, _^_, _≤_, _<_}
 use lib.ListN.{length, getD}
 use Rattle.runs.specs.Parts.{nth, part}
 use Rattle.rule.specs.Seeding.{Entry}
 use Rattle.rule.specs.Sums.{inUse}
 use Rattle.word.specs.declared.WordSet.{WordSet}
+use Rattle.word.specs.declared.Span.{Span}
 
 -- A SYMBOL'S CELL: its low 32 bits are the symbol; the high ones are room for a number beside it, 0 when the symbol is pushed
 unfoldable pub symbolIn : ℕ → ℕ
@@ -71,6 +70,15 @@ pub record Numbers (r : WordSet) (starts count low top live : ℕ) : Type 0 wher
   pub top-is : r .top ≡ top
   pub live-is : r .live ≡ live
 
--- the gaps take more cells than the symbols: of the span, each word's two cells before its symbols are neither
-unfoldable pub sparse : WordSet → Bool
-sparse w = ltb (2 * w .live) (w .top - w .low - 2 * w .count)
+-- where word k begins
+pub record Placed (w : WordSet) (k : ℕ) (cs : List ℕ) (s : ℕ) : Type 0 where
+  pub place : s ≡ nth cs (w .starts + k)
+  pub low : w .low ≤ s
+  pub high : endAt cs s ≤ w .top
+
+-- where the symbols of word k stand
+pub record Found (w : WordSet) (k : ℕ) (cs : List ℕ) (r : Span) : Type 0 where
+  pub symbols : symbolsAt (r .start) (r .length) cs ≡ entryAt (corpus cs (w .starts) (w .count)) k .symbols
+  pub place : r .start ≡ nth cs (w .starts + k) + 2
+  pub long : r .length ≡ length (entryAt (corpus cs (w .starts) (w .count)) k .symbols)
+  pub room : r .start + r .length ≤ length cs

@@ -1,3 +1,2 @@
--- The definitions of `word`: the words of a corpus in a room of cells, and what reading and pushing do.
+-- The definitions of `word`: the words of a corpus in a room of cells.
 pub mod Layout
-pub mod Pushing

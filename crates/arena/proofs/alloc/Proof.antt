@@ -1,6 +1,6 @@
 -- `arena::alloc` meets its contract: a record is taken, then emptied.
 use borrow.Author.Needs.{needs}
-use Rattle.arena.proofs.Laws.{allocated}
+use Rattle.arena.proofs.Claims.{allocated}
 use Rattle.arena.proofs.alloc.Statement.{statement}
 use Rattle.arena.proofs.alloc.Tie as tie
 

@@ -1,6 +1,6 @@
 -- `arena::blank` meets its contract: three puts of 0.
 use borrow.Author.Needs.{needs}
-use Rattle.arena.proofs.Laws.{blanked}
+use Rattle.arena.proofs.Claims.{blanked}
 use Rattle.arena.proofs.blank.Statement.{statement}
 use Rattle.arena.proofs.blank.Tie as tie
 

@@ -1,6 +1,6 @@
 -- `arena::claim` meets its contract: either way a record is taken.
 use borrow.Author.Needs.{needs}
-use Rattle.arena.proofs.Laws.{can-new, can-free}
+use Rattle.arena.proofs.Claims.{can-new, can-free}
 use Rattle.arena.proofs.claim.Statement.{statement}
 use Rattle.arena.proofs.claim.Tie as tie
 

@@ -1,7 +1,8 @@
 -- `arena::claim_free` meets its contract: the first of the free list is live, and the next one is the first.
 use borrow.Author.Needs.{needs}
 use mathlib.Core.Path.{refl}
-use Rattle.arena.proofs.Laws.{free-within, free-is, claimed-free}
+use Rattle.records.proofs.Laws.{free-is}
+use Rattle.arena.proofs.Claims.{free-within, claimed-free}
 use Rattle.arena.proofs.claim_free.Statement.{statement}
 use Rattle.arena.proofs.claim_free.Tie as tie
 

@@ -1,6 +1,7 @@
 -- `arena::claim_new` meets its contract: the first record that was never taken is live.
 use borrow.Author.Needs.{needs}
-use Rattle.arena.proofs.Laws.{new-within, taken-is, claimed-new}
+use Rattle.records.proofs.Laws.{taken-is}
+use Rattle.arena.proofs.Claims.{new-within, claimed-new}
 use Rattle.arena.proofs.claim_new.Statement.{statement}
 use Rattle.arena.proofs.claim_new.Tie as tie
 

@@ -1,6 +1,7 @@
 -- `arena::drop_key` meets its contract: the record is the first of the free list.
 use borrow.Author.Needs.{needs}
-use Rattle.arena.proofs.Laws.{live-low, free-is, dropped}
+use Rattle.records.proofs.Laws.{live-low, free-is}
+use Rattle.arena.proofs.Claims.{dropped}
 use Rattle.arena.proofs.drop_key.Statement.{statement}
 use Rattle.arena.proofs.drop_key.Tie as tie
 

@@ -1,6 +1,7 @@
 -- `arena::release` meets its contract: link and depth are put, then the key is taken out.
 use borrow.Author.Needs.{needs}
-use Rattle.arena.proofs.Laws.{free-is, can-drop, released}
+use Rattle.records.proofs.Laws.{free-is}
+use Rattle.arena.proofs.Claims.{can-drop, released}
 use Rattle.arena.proofs.release.Statement.{statement}
 use Rattle.arena.proofs.release.Tie as tie
 

@@ -3,7 +3,7 @@ use borrow.Author.Needs.{needs}
 use mathlib.Core.Path.{_≡_}
 use Prim.Native.Nat.{_-_, _≤_}
 use lib.ListN.{length}
-use Rattle.numbers.specs.Cells.{cells}
+use Rattle.cells.specs.Cells.{cells}
 use Rattle.census.specs.Census.{CanCount, Counting}
 use Rattle.census.proofs.Words.{count-start, word-can, word-turn, count-end}
 use Rattle.census.proofs.count_pairs.Statement.{statement}

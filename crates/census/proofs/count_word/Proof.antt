@@ -3,7 +3,7 @@ use borrow.Author.Needs.{needs}
 use mathlib.Core.Path.{_≡_}
 use native.Mathlib.Omega.{arith}
 use lib.ListN.{length}
-use Rattle.numbers.specs.Cells.{cells}
+use Rattle.cells.specs.Cells.{cells}
 use Rattle.census.specs.Census.{Raising}
 use Rattle.census.proofs.Word.{raise-start, raise-end, raise-inside, raise-can, raise-turn}
 use Rattle.census.proofs.count_word.Statement.{statement}

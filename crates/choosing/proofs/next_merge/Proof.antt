@@ -3,7 +3,7 @@ use borrow.Author.Needs.{needs}
 use mathlib.Core.Path.{_≡_}
 use Prim.Native.Nat.{_≤_}
 use lib.ListN.{length}
-use Rattle.numbers.specs.Cells.{cells}
+use Rattle.cells.specs.Cells.{cells}
 use Rattle.intern.specs.Pieces.{Held}
 use Rattle.intern.specs.Pieces as rooms
 use Rattle.choosing.specs.Turns.{Run}

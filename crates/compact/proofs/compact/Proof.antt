@@ -3,7 +3,7 @@ use borrow.Author.Needs.{needs}
 use mathlib.Core.Path.{_≡_}
 use lib.ListN.{length}
 use Prim.Native.Nat.{_-_, _≤_}
-use Rattle.numbers.specs.Cells.{cells}
+use Rattle.cells.specs.Cells.{cells}
 use Rattle.compact.specs.Compacting.{Sliding}
 use Rattle.compact.proofs.Sliding.{sliding-start, sliding-low, sliding-down, sliding-turn, sliding-end}
 use Rattle.compact.proofs.compact.Statement.{statement}

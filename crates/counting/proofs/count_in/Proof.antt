@@ -3,8 +3,8 @@ use borrow.Author.Needs.{needs}
 use mathlib.Core.Path.{_≡_}
 use Prim.Native.Nat.{_+_, _^_, _≤_, _<_}
 use lib.ListN.{length}
-use Rattle.numbers.specs.Cells.{cells}
-use Rattle.numbers.proofs.Cells.{cells-small}
+use Rattle.cells.specs.Cells.{cells}
+use Rattle.cells.proofs.Cells.{cells-small}
 use Rattle.rule.specs.Rewriting.{countIn}
 use Rattle.word.specs.Layout.{symbolsAt}
 use Rattle.counting.proofs.Counts.{hits-start, hits-turn, hits-end}

@@ -2,7 +2,7 @@
 use borrow.Author.Needs.{needs}
 use mathlib.Core.Path.{_≡_}
 use Prim.Native.Nat.{_≤_, _<_}
-use Rattle.numbers.specs.Cells.{cells}
+use Rattle.cells.specs.Cells.{cells}
 use Rattle.index.specs.Probe.{probe}
 use Rattle.index.specs.Index.{keyAt, slot}
 use Rattle.index.proofs.Slots.{find-start, find-at, find-vacant, find-next, find-none}

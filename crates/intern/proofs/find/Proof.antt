@@ -4,7 +4,7 @@ use native.Mathlib.Omega.{arith}
 use mathlib.Core.Path.{_≡_}
 use mathlib.Core.List.{_++_}
 use Prim.Native.Nat.{_≤_, _<_}
-use Rattle.numbers.specs.Cells.{cells}
+use Rattle.cells.specs.Cells.{cells}
 use Rattle.spells.specs.Hash.{hashOf}
 use Rattle.intern.specs.Intern.{spelt, look}
 use Rattle.intern.specs.Seek.{seek}

@@ -6,7 +6,7 @@ use native.Mathlib.Omega.{arith}
 use lib.ListN.{length}
 use Rattle.runs.specs.Parts.{put}
 use Rattle.runs.proofs.Parts.{length-put}
-use Rattle.numbers.specs.Cells.{cells}
+use Rattle.cells.specs.Cells.{cells}
 use Rattle.joining.specs.Visiting.{Weights}
 use Rattle.joining.proofs.Visiting.{look-small, look-at, look-word, weights-more}
 use Rattle.joining.proofs.frequencies.Statement.{statement}

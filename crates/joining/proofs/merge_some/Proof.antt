@@ -5,7 +5,7 @@ use Prim.Native.Nat.{_+_, _-_, _≤_}
 use native.Mathlib.Omega.{arith}
 use lib.ListN.{length}
 use Rattle.runs.specs.Parts.{nth}
-use Rattle.numbers.specs.Cells.{cells}
+use Rattle.cells.specs.Cells.{cells}
 use Rattle.states.specs.State as states
 use Rattle.joining.specs.Visiting.{Weights, Visiting}
 use Rattle.joining.proofs.Visiting.{look-small, has-key, can-look, visiting-start, visiting-low, visiting-count, visiting-weight, visiting-turn}

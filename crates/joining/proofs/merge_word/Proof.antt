@@ -2,8 +2,8 @@
 use borrow.Author.Needs.{needs}
 use mathlib.Core.Path.{_≡_}
 use lib.ListN.{length}
-use Rattle.numbers.specs.Cells.{cells}
-use Rattle.numbers.proofs.Cells.{cells-small}
+use Rattle.cells.specs.Cells.{cells}
+use Rattle.cells.proofs.Cells.{cells-small}
 use Rattle.joining.specs.Running.{Running}
 use Rattle.joining.proofs.Running.{running-start, running-read, running-few, running-tell, running-cell, running-place, running-turn}
 use Rattle.joining.proofs.Joining.{running-shorten, running-joined}

@@ -1,6 +1,6 @@
 -- `lists::load` meets its contract: five fields, the count and the marks are the state by value.
 use borrow.Author.Needs.{needs}
-use Rattle.pairs.proofs.Fields.{has-get}
+use Rattle.fields.proofs.Fields.{has-get}
 use Rattle.lists.proofs.Reading.{loaded}
 use Rattle.lists.proofs.load.Statement.{statement}
 use Rattle.lists.proofs.load.Tie as tie

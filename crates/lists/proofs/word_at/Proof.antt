@@ -1,7 +1,7 @@
 -- `lists::word_at` meets its contract: a short list stands in the record, a long one in its run.
 use borrow.Author.Needs.{needs}
 use native.Mathlib.Omega.{arith}
-use Rattle.pairs.proofs.Fields.{has-get}
+use Rattle.fields.proofs.Fields.{has-get}
 use Rattle.lists.proofs.Reading.{word-short, word-long, long-room, short-room}
 use Rattle.lists.proofs.word_at.Statement.{statement}
 use Rattle.lists.proofs.word_at.Tie as tie

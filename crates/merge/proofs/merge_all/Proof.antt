@@ -3,7 +3,7 @@ use borrow.Author.Needs.{needs}
 use mathlib.Core.Path.{_≡_}
 use lib.ListN.{length}
 use Prim.Native.Nat.{_-_, _≤_}
-use Rattle.numbers.specs.Cells.{cells}
+use Rattle.cells.specs.Cells.{cells}
 use Rattle.merge.specs.Merging.{Merging}
 use Rattle.merge.proofs.Merging.{merging-start, merging-turn, merging-end}
 use Rattle.merge.proofs.merge_all.Statement.{statement}

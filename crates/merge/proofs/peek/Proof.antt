@@ -1,7 +1,7 @@
 -- `merge::peek` meets its contract: a symbol of the part, or 0 past its end.
 use borrow.Author.Needs.{needs}
 use native.Mathlib.Omega.{arith}
-use Rattle.numbers.proofs.Cells.{length-cells}
+use Rattle.cells.proofs.Cells.{length-cells}
 use Rattle.merge.proofs.Runs.{peek-in, peek-past}
 use Rattle.merge.proofs.peek.Statement.{statement}
 use Rattle.merge.proofs.peek.Tie as tie

@@ -2,8 +2,8 @@
 use borrow.Author.Needs.{needs}
 use mathlib.Core.Path.{_≡_}
 use lib.ListN.{length}
-use Rattle.numbers.specs.Cells.{cells}
-use Rattle.numbers.proofs.Cells.{cells-small}
+use Rattle.cells.specs.Cells.{cells}
+use Rattle.cells.proofs.Cells.{cells-small}
 use Rattle.merge.specs.Cells.{Run}
 use Rattle.merge.proofs.Runs.{run-start, run-turn, run-end}
 use Rattle.merge.proofs.rewrite_run.Statement.{statement}

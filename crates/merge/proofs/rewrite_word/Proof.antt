@@ -1,7 +1,7 @@
 -- `merge::rewrite_word` meets its contract: the symbols are rewritten, then the length is put.
 use borrow.Author.Needs.{needs}
 use native.Mathlib.Omega.{arith}
-use Rattle.numbers.proofs.Cells.{length-cells}
+use Rattle.cells.proofs.Cells.{length-cells}
 use Rattle.merge.proofs.Runs.{word-rewritten}
 use Rattle.merge.proofs.rewrite_word.Statement.{statement}
 use Rattle.merge.proofs.rewrite_word.Tie as tie

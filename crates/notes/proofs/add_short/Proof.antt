@@ -1,6 +1,6 @@
 -- `notes::add_short` meets its contract: the word in a field of the record, then the number.
 use borrow.Author.Needs.{needs}
-use Rattle.pairs.proofs.Fields.{has-record}
+use Rattle.fields.proofs.Fields.{has-record}
 use Rattle.notes.proofs.Steps.{can-field}
 use Rattle.notes.proofs.Adding.{added-short}
 use Rattle.notes.proofs.add_short.Statement.{statement}

@@ -1,6 +1,6 @@
 -- `notes::note` meets its contract: nothing where the word was noted last, else it is put behind the others.
 use borrow.Author.Needs.{needs}
-use Rattle.pairs.proofs.Fields.{has-get}
+use Rattle.fields.proofs.Fields.{has-get}
 use Rattle.notes.proofs.Adding.{noted-seen, noted-new, can-short, can-long}
 use Rattle.notes.proofs.note.Statement.{statement}
 use Rattle.notes.proofs.note.Tie as tie

@@ -1,6 +1,6 @@
 -- `notes::seen` meets its contract: the last of n words is the one at n - 1.
 use borrow.Author.Needs.{needs}
-use Rattle.pairs.proofs.Fields.{has-get}
+use Rattle.fields.proofs.Fields.{has-get}
 use Rattle.lists.proofs.Reading.{seen-none, seen-some, last-low}
 use Rattle.notes.proofs.seen.Statement.{statement}
 use Rattle.notes.proofs.seen.Tie as tie

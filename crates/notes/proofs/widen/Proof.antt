@@ -1,7 +1,7 @@
 -- `notes::widen` meets its contract: four words leave the record, a full run is left for one twice as large.
 use borrow.Author.Needs.{needs}
 use native.Mathlib.Omega.{arith}
-use Rattle.pairs.proofs.Fields.{has-get}
+use Rattle.fields.proofs.Fields.{has-get}
 use Rattle.notes.proofs.Moving.{can-spill, ready-spilled, ready-same, can-grow, ready-grown}
 use Rattle.notes.proofs.widen.Statement.{statement}
 use Rattle.notes.proofs.widen.Tie as tie

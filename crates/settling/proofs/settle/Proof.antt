@@ -3,7 +3,7 @@ use borrow.Author.Needs.{needs}
 use mathlib.Core.Path.{_≡_}
 use Prim.Native.Nat.{_-_, _≤_}
 use lib.ListN.{length}
-use Rattle.numbers.specs.Cells.{cells}
+use Rattle.cells.specs.Cells.{cells}
 use Rattle.settling.specs.Settling.{CanSettle, Settling}
 use Rattle.settling.proofs.Loop.{settle-start, settle-can, settle-turn, settle-end}
 use Rattle.settling.proofs.settle.Statement.{statement}

@@ -1,0 +1,3 @@
+-- The laws of `cells`.
+pub mod Cells
+pub mod Ring

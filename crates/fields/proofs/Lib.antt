@@ -1,0 +1,2 @@
+-- The laws of `fields`.
+pub mod Fields

@@ -1,0 +1,3 @@
+-- The laws of `order`.
+pub mod Ordered
+pub mod Comparing

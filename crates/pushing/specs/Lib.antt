@@ -1,0 +1,2 @@
+-- The definitions of `pushing`.
+pub mod Pushing

@@ -1,0 +1,2 @@
+-- The definitions of `records`.
+pub mod Records
