@@ -1,5 +1,5 @@
 // A run as a room of 64-bit cells: cell i is the number of 8 bytes at i * 8. Reading or putting a cell compiles to the machine's
-// own load or store.
+// own load or store. And the way round cells that stand in a ring.
 //
 // A bound is always stated as `place < number of cells`, of several cells as `place + n ≤ number of cells`.
 ghost use mathlib.Core.Path.{_≡_};
@@ -7,6 +7,7 @@ ghost use Prim.Native.Nat.{_+_, _*_, _<_, _≤_};
 ghost use lib.ListN.{length};
 ghost use Rattle.runs.specs.Parts.{nth, part, zeros};
 ghost use Rattle.cells.specs.Cells.{cells, Put, Laid};
+ghost use Rattle.cells.specs.Ring.{after};
 
 // The cell i.
 pub fn cell(room: &[u8], i: usize) -> u64
@@ -38,4 +39,12 @@ pub fn copy_cells(room: &mut [u8], at: usize, from: usize, n: usize)
     ensures { λ _. ⌜ Laid (now (room .entry)) (now (room .exit)) at (part (from * 8) (n * 8) (now (room .entry))) (part from n (cells (now (room .entry)))) ⌝ }
 {
     runs::copy_within(room, at * 8, from * 8, n * 8);
+}
+
+// The slot after i, of `cap` slots in a ring.
+pub fn next(cap: usize, i: usize) -> usize
+    requires { ⌜ i < cap ⌝ }
+    ensures { λ r. ⌜ (r ≡ after cap i) × (r < cap) ⌝ }
+{
+    if i + 1 == cap { 0 } else { i + 1 }
 }

@@ -10,7 +10,7 @@ use Rattle.runs.proofs.Parts.{same-or-not}
 use Rattle.runs.proofs.Frames.{kept-none, kept-then}
 use Rattle.rule.specs.Rewriting.{more}
 use Rattle.rule.proofs.Counts.{under-nth}
-use Rattle.word.specs.Layout.{symbolIn, symbolsAt, corpus, Found}
+use Rattle.word.specs.Layout.{symbolIn, symbolsAt, Found, wordsIn}
 use Rattle.word.specs.declared.WordSet.{WordSet}
 use Rattle.word.specs.declared.Span.{Span}
 use Rattle.word.proofs.Views.{symbols-length, nth-symbols, symbols-cons, corpus-length, under-at}
@@ -58,7 +58,7 @@ module _ (w : WordSet) (p : Pairs) (k n : ℕ) (cs : List ℕ) (can : CanCountWo
         ok = can .ok;
         inside = omega (arith, found .place, found .long, long, word-high w cs (can .words) k (can .low), can .apart);
         small = λ j h. rw (← nth-symbols (r .start) (r .length) cs j h, found .symbols)
-            (under-nth most (wordOf w k cs .symbols) j (under-at most (corpus cs (w .starts) (w .count)) k (can .below) known) (omega (arith, found .long)));
+            (under-nth most (wordOf w k cs .symbols) j (under-at most (wordsIn w cs) k (can .below) known) (omega (arith, found .long)));
         completes = λ τ h. h;
         light = λ a b ha hb. rw (ef, found .long) (can .light a b ha hb);
         listing = λ l. l;
@@ -70,7 +70,7 @@ module _ (w : WordSet) (p : Pairs) (k n : ℕ) (cs : List ℕ) (can : CanCountWo
         kept = kept-none (p .base) (beyond p) cs;
       }
     where
-      known : k < length (corpus cs (w .starts) (w .count))
+      known : k < length (wordsIn w cs)
       known = omega (arith, corpus-length cs (w .starts) (w .count), can .low)
 
       long : length (wordOf w k cs .symbols) ≡ nth cs (nth cs (w .starts + k) + 1)

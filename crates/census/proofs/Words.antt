@@ -7,7 +7,7 @@ use native.Mathlib.Omega.{arith}
 use lib.ListN.{length}
 use Rattle.runs.proofs.Frames.{kept-none, kept-then}
 use Rattle.rule.specs.Sums.{inUse}
-use Rattle.word.specs.Layout.{corpus}
+use Rattle.word.specs.Layout.{wordsIn}
 use Rattle.word.specs.declared.WordSet.{WordSet}
 use Rattle.word.proofs.Views.{corpus-length}
 use Rattle.word.proofs.Sets.{words-kept, corpus-kept}
@@ -47,7 +47,7 @@ module _ (w : WordSet) (p : Pairs) (cs : List ℕ) (can : CanCount w p cs) where
   count-start =
       record {
         ok = can .empty .ok;
-        tracks = tracks-blank (can .empty .states) (corpus cs (w .starts) (w .count));
+        tracks = tracks-blank (can .empty .states) (wordsIn w cs);
         gained = gained-blank (can .empty .states);
         listing = listing-none p cs (can .room) (can .empty);
         made-few = omega (arith, can .empty .none);
@@ -57,16 +57,16 @@ module _ (w : WordSet) (p : Pairs) (cs : List ℕ) (can : CanCount w p cs) where
 
   -- A WORD
   module _ (k n : ℕ) (ds : List ℕ) (inv : Counting w p k cs ds n) where
-    same : corpus ds (w .starts) (w .count) ≡ corpus cs (w .starts) (w .count)
+    same : wordsIn w ds ≡ wordsIn w cs
     same = corpus-kept w cs ds (p .base) (beyond p) (can .words) (inv .kept) (inr (can .apart))
 
     module _ (less : k < w .count) where
-      known : k < length (corpus cs (w .starts) (w .count))
+      known : k < length (wordsIn w cs)
       known = omega (arith, corpus-length cs (w .starts) (w .count))
 
-      space : inUse (upTo k (corpus cs (w .starts) (w .count))) + length (wordOf w k cs .symbols) ≤ p .most
+      space : inUse (upTo k (wordsIn w cs)) + length (wordOf w k cs .symbols) ≤ p .most
       space =
-          omega (arith, used-word k (corpus cs (w .starts) (w .count)) known, used-most (k + 1) (corpus cs (w .starts) (w .count)), can .words .used, can .space)
+          omega (arith, used-word k (wordsIn w cs) known, used-most (k + 1) (wordsIn w cs), can .words .used, can .space)
 
       pub word-can : CanCountWord w p k n ds
       word-can =
@@ -87,7 +87,7 @@ module _ (w : WordSet) (p : Pairs) (cs : List ℕ) (can : CanCount w p cs) where
               omega (
                 arith,
                 tracked-light (inv .tracks) a b (λ z. let q = key-pos a b in omega arith) ha hb,
-                weight-word k (corpus cs (w .starts) (w .count)) known,
+                weight-word k (wordsIn w cs) known,
                 can .light,
               )
 
@@ -95,11 +95,11 @@ module _ (w : WordSet) (p : Pairs) (cs : List ℕ) (can : CanCount w p cs) where
       word-turn es m d =
           record {
             ok = d .ok;
-            tracks = tracks-word k (corpus cs (w .starts) (w .count)) known (inv .tracks) reported;
+            tracks = tracks-word k (wordsIn w cs) known (inv .tracks) reported;
             gained = gained-reported (inv .gained) reported;
             listing = d .listing (inv .listing);
-            made-few = rw (used-word k (corpus cs (w .starts) (w .count)) known) (omega (arith, rw same at (d .made-most), inv .made-few));
-            few = rw (used-word k (corpus cs (w .starts) (w .count)) known) (omega (arith, rw same at (d .most-listed), inv .few));
+            made-few = rw (used-word k (wordsIn w cs) known) (omega (arith, rw same at (d .made-most), inv .made-few));
+            few = rw (used-word k (wordsIn w cs) known) (omega (arith, rw same at (d .most-listed), inv .few));
             kept = kept-then (inv .kept) (d .kept);
           }
         where
@@ -119,5 +119,5 @@ module _ (w : WordSet) (p : Pairs) (cs : List ℕ) (can : CanCount w p cs) where
           kept = inv .kept;
         }
       where
-        all : upTo k (corpus cs (w .starts) (w .count)) ≡ corpus cs (w .starts) (w .count)
-        all = upTo-all k (corpus cs (w .starts) (w .count)) (omega (arith, corpus-length cs (w .starts) (w .count)))
+        all : upTo k (wordsIn w cs) ≡ wordsIn w cs
+        all = upTo-all k (wordsIn w cs) (omega (arith, corpus-length cs (w .starts) (w .count)))

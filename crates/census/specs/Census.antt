@@ -5,7 +5,7 @@ use lib.ListN.{length}
 use Rattle.runs.specs.Parts.{nth, Kept}
 use Rattle.rule.specs.Seeding.{Entry}
 use Rattle.rule.specs.Sums.{AllUnder, symbolsIn, inUse}
-use Rattle.word.specs.Layout.{symbolIn, symbolsAt, corpus, entryAt, Words}
+use Rattle.word.specs.Layout.{symbolIn, symbolsAt, entryAt, Words, wordsIn}
 use Rattle.word.specs.declared.WordSet.{WordSet}
 use Rattle.states.specs.State.{State, most, key}
 use Rattle.states.specs.Tracking.{Tracks, Reported, mores, AllGained, upTo}
@@ -20,24 +20,24 @@ pub record CanCount (w : WordSet) (p : Pairs) (cs : List ℕ) : Type 0 where
   pub apart : w .top ≤ p .base
   pub empty : Empty p cs
   pub room : beyond p ≤ length cs
-  pub light : symbolsIn (corpus cs (w .starts) (w .count)) < 2 ^ 53
-  pub below : AllUnder most (corpus cs (w .starts) (w .count))
+  pub light : symbolsIn (wordsIn w cs) < 2 ^ 53
+  pub below : AllUnder most (wordsIn w cs)
   pub space : w .live ≤ p .most
 
 -- the states track the words from 0 up to k; no more pairs were asked for, and none more are on the list, than these words have symbols
 pub record Counting (w : WordSet) (p : Pairs) (k : ℕ) (cs ds : List ℕ) (n : ℕ) : Type 0 where
   pub ok : Pairing p ds
-  pub tracks : Tracks (state p ds) 0 (upTo k (corpus cs (w .starts) (w .count)))
+  pub tracks : Tracks (state p ds) 0 (upTo k (wordsIn w cs))
   pub gained : AllGained (state p ds)
   pub listing : Listing p 0 n ds
-  pub made-few : made p ds ≤ inUse (upTo k (corpus cs (w .starts) (w .count)))
-  pub few : n ≤ inUse (upTo k (corpus cs (w .starts) (w .count)))
+  pub made-few : made p ds ≤ inUse (upTo k (wordsIn w cs))
+  pub few : n ≤ inUse (upTo k (wordsIn w cs))
   pub kept : Kept (p .base) (beyond p) cs ds
 
 -- WHAT IT GIVES: they track all words, and every pair that counts is on the list, as gained
 pub record CountDone (w : WordSet) (p : Pairs) (cs ds : List ℕ) (n : ℕ) : Type 0 where
   pub ok : Pairing p ds
-  pub tracks : Tracks (state p ds) 0 (corpus cs (w .starts) (w .count))
+  pub tracks : Tracks (state p ds) 0 (wordsIn w cs)
   pub gained : AllGained (state p ds)
   pub listing : Listing p 0 n ds
   pub made-few : made p ds ≤ w .live
@@ -46,14 +46,14 @@ pub record CountDone (w : WordSet) (p : Pairs) (cs ds : List ℕ) (n : ℕ) : Ty
 
 -- ONE WORD
 abbrev pub wordOf : WordSet → ℕ → List ℕ → Entry
-wordOf w k cs = entryAt (corpus cs (w .starts) (w .count)) k
+wordOf w k cs = entryAt (wordsIn w cs) k
 
 -- there is place for as many pairs as it has symbols, and no count grows too large
 pub record CanCountWord (w : WordSet) (p : Pairs) (k n : ℕ) (cs : List ℕ) : Type 0 where
   pub words : Words w cs
   pub low : k < w .count
   pub apart : w .top ≤ p .base
-  pub below : AllUnder most (corpus cs (w .starts) (w .count))
+  pub below : AllUnder most (wordsIn w cs)
   pub ok : Pairing p cs
   pub room : beyond p ≤ length cs
   pub space : made p cs + length (wordOf w k cs .symbols) ≤ p .most

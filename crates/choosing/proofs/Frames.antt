@@ -11,7 +11,7 @@ use Rattle.runs.specs.Parts.{Kept}
 use Rattle.runs.proofs.Parts.{same-or-not}
 use Rattle.rule.specs.Training.{count}
 use Rattle.rule.specs.Seeding.{Entry}
-use Rattle.word.specs.Layout.{Words}
+use Rattle.word.specs.Layout.{Words, wordsIn}
 use Rattle.word.specs.declared.WordSet.{WordSet}
 use Rattle.word.proofs.Sets.{words-kept, corpus-kept}
 use Rattle.marks.specs.Marks.{touched, gained, blocked, marked}
@@ -24,7 +24,7 @@ use Rattle.pairs.specs.View.{behind, state, made}
 use Rattle.pairs.specs.Pairs.{Pairing}
 use Rattle.pairs.specs.declared.Pairs.{Pairs}
 use Rattle.pairs.proofs.Clients.{pairs-kept}
-use Rattle.engine.specs.Engine.{wordsIn, Engaged}
+use Rattle.engine.specs.Engine.{Engaged}
 use Rattle.engine.proofs.Merging.{same-calm}
 use Rattle.choosing.specs.Turns.{Blocked, barred}
 

@@ -9,7 +9,7 @@ use lib.ListN.{length}
 use Rattle.runs.specs.Parts.{Kept}
 use Rattle.rule.specs.Table.{Task}
 use Rattle.rule.specs.Seeding.{Entry}
-use Rattle.rule.specs.Training.{Choice, count, within}
+use Rattle.rule.specs.Training.{Choice, count, within, limits}
 use Rattle.rule.specs.Demand.{Open, Chosen}
 use Rattle.lazy.specs.Lazy.{insert, live}
 use Rattle.lazy.specs.Invariant.{Inv}
@@ -23,7 +23,6 @@ use Rattle.queue.proofs.Holding.{in-here, in-rest, in-either, holds-push, holds
 use Rattle.states.specs.State.{leftOf, rightOf, OfPair}
 use Rattle.waiting.specs.Waiting.{waits, queueOf}
 use Rattle.waiting.proofs.Queue.{queue-none, queue-pop, queue-cons}
-use Rattle.recount.specs.Recount.{limits}
 use Rattle.recount.proofs.Limits.{within-limits}
 use Rattle.engine.specs.Engine.{Limits, Queued, Waiting}
 

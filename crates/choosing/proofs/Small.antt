@@ -5,8 +5,7 @@ use mathlib.Core.List.{List}
 use Prim.Native.Nat.{ℕ, _+_, _-_, _/_, _%_, _<_}
 use native.Mathlib.Omega.{arith}
 use Rattle.marks.specs.Marks.{blocked, marking}
-use Rattle.states.specs.State.{State, leftOf, rightOf, OfPair, Change}
-use Rattle.states.proofs.Keys.{key-pos}
+use Rattle.states.specs.State.{State, leftOf, rightOf, Change}
 use Rattle.pairs.specs.View.{recordOf, state}
 use Rattle.pairs.specs.Pairs.{Pairing, Has, Updated}
 use Rattle.pairs.specs.declared.Pairs.{Pairs}
@@ -14,10 +13,6 @@ use Rattle.pairs.proofs.Moves.{state-none}
 use Rattle.pairs.proofs.Clients.{has-tied, counted-has}
 use Rattle.queue.specs.Heap.{Pushed}
 use Rattle.choosing.specs.Turns.{Corrected, Counts, Blocked, barred}
-
--- THE SYMBOLS OF A PAIR
-pub pair-pos : (c : ℕ) → OfPair c → 0 < c
-pair-pos c p = rw (← (p .is)) (key-pos (leftOf c) (rightOf c))
 
 pub left-is : (c : ℕ) → (c - 1) / 4294967296 ≡ leftOf c
 unfolding leftOf

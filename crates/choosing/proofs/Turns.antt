@@ -6,7 +6,7 @@ use Prim.Native.Nat.{ℕ, _+_, _-_, _*_, _<_, _≤_}
 use native.Mathlib.Omega.{arith}
 use lib.ListN.{length}
 use Rattle.runs.proofs.Parts.{below-or-not}
-use Rattle.rule.specs.Training.{count, within}
+use Rattle.rule.specs.Training.{count, within, limits}
 use Rattle.lazy.proofs.Order.{differ}
 use Rattle.queue.specs.declared.Candidate.{Candidate}
 use Rattle.queue.specs.Heap.{Heap, Pushed, Popped}
@@ -15,8 +15,7 @@ use Rattle.pairs.specs.View.{behind, state}
 use Rattle.pairs.specs.Pairs.{Pairing}
 use Rattle.waiting.specs.Waiting.{waits}
 use Rattle.waiting.proofs.Queue.{queue-length}
-use Rattle.recount.specs.Recount.{limits}
-use Rattle.engine.specs.Engine.{wordsIn}
+use Rattle.word.specs.Layout.{wordsIn}
 use Rattle.engine.specs.declared.Engine.{Engine}
 use Rattle.choosing.specs.Choosing.{CanChoose, NextDone}
 use Rattle.choosing.specs.Turns.{renewed, Corrected, Counts, Blocked, Headed, Going, TurnDone, Run}
@@ -24,7 +23,7 @@ use Rattle.choosing.specs.declared.Next.{Next}
 use Rattle.choosing.specs.declared.Next.the-variants.{Pair, Nothing}
 use Rattle.choosing.specs.declared.Turn.{Turn}
 use Rattle.choosing.specs.declared.Turn.the-variants.{On, Answer}
-use Rattle.choosing.proofs.Small.{pair-pos}
+use Rattle.states.proofs.Keys.{pair-pos}
 use Rattle.choosing.proofs.Frames.{live-exact, view-behind, engaged-behind, view-blocked, engaged-blocked}
 use Rattle.choosing.proofs.Queues.{queued-turns, queued-known, queued-low, queued-chosen, waiting-popped, waiting-pair, waiting-kept, waiting-drop, waiting-again, waiting-none}
 

@@ -6,7 +6,8 @@ use lib.ListN.{length}
 use Rattle.rule.specs.Table.{Task}
 use Rattle.rule.specs.Training.{Choice, count}
 use Rattle.rule.specs.Demand.{Open, Chosen}
-use Rattle.engine.specs.Engine.{wordsIn, Engaged, Limits, Waiting}
+use Rattle.engine.specs.Engine.{Engaged, Limits, Waiting}
+use Rattle.word.specs.Layout.{wordsIn}
 use Rattle.engine.specs.declared.Engine.{Engine}
 use Rattle.choosing.specs.declared.Next.{Next}
 use Rattle.choosing.specs.declared.Next.the-variants.{Pair, Nothing}

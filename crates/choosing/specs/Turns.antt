@@ -13,7 +13,8 @@ use Rattle.pairs.specs.View.{behind, state, made}
 use Rattle.pairs.specs.Pairs.{Pairing}
 use Rattle.pairs.specs.declared.Pairs.{Pairs}
 use Rattle.waiting.specs.Waiting.{waits}
-use Rattle.engine.specs.Engine.{wordsIn, Engaged, Waiting}
+use Rattle.engine.specs.Engine.{Engaged, Waiting}
+use Rattle.word.specs.Layout.{wordsIn}
 use Rattle.engine.specs.declared.Engine.{Engine}
 use Rattle.choosing.specs.Choosing.{CanChoose, NextDone}
 use Rattle.choosing.specs.declared.Turn.{Turn}

@@ -10,7 +10,7 @@ use Rattle.runs.proofs.Parts.{same-or-not, below-or-not, nth-put, nth-put-other
 use Rattle.runs.proofs.Frames.{kept-none, kept-then, kept-laid}
 use Rattle.rule.specs.Seeding.{Entry}
 use Rattle.rule.specs.Sums.{inUse}
-use Rattle.word.specs.Layout.{symbolIn, symbolsAt, endAt, line, lines, corpus, entryAt, InLine, Words, Placed}
+use Rattle.word.specs.Layout.{symbolIn, symbolsAt, endAt, line, lines, corpus, entryAt, InLine, Words, Placed, wordsIn}
 use Rattle.word.specs.declared.WordSet.{WordSet}
 use Rattle.word.proofs.Views.{symbols-length, corpus-none, corpus-entry, corpus-more, corpus-lines, lines-same, length-moved, line-moved, line-same, inUse-append}
 use Rattle.word.proofs.Sets.{word-symbols, words-room}
@@ -184,7 +184,7 @@ module _ (w : WordSet) (k to : ℕ) (cs ds : List ℕ) (σ : Sliding w k to cs d
             (λ c. rw c (omega (arith, end-this, within, place-other j u d, σ .set .inLine .order k j (omega arith) u)))
             (λ c. omega (arith, end-other i (omega arith) c, place-other j u d, σ .set .inLine .order i j l u)))
 
-    corpus-on : corpus es (w .starts) (w .count) ≡ corpus ds (w .starts) (w .count)
+    corpus-on : wordsIn w es ≡ wordsIn w ds
     corpus-on = corpus-lines ds es (w .starts) (w .count) whole-on
 
     -- the word's length is that of the word with its number when all began

@@ -8,7 +8,7 @@ use lib.Dec.{ltb}
 use lib.ListN.{length}
 use Rattle.runs.specs.Parts.{nth, put, part, laid, Kept}
 use Rattle.rule.specs.Sums.{inUse}
-use Rattle.word.specs.Layout.{endAt, line, lines, corpus, InLine, Words, Numbers}
+use Rattle.word.specs.Layout.{endAt, line, lines, corpus, InLine, Words, Numbers, wordsIn}
 use Rattle.word.specs.declared.WordSet.{WordSet}
 
 -- the gaps take more cells than the symbols: of the span, each word's two cells before its symbols are neither
@@ -20,7 +20,7 @@ pub record Compacted (w : WordSet) (cs ds : List ℕ) (r : WordSet) : Type 0 whe
   pub numbers : Numbers r (w .starts) (w .count) (w .low) (w .low + w .live + 2 * w .count) (w .live)
   pub lower : r .top ≤ w .top
   pub set : Words r ds
-  pub view : corpus ds (r .starts) (r .count) ≡ corpus cs (w .starts) (w .count)
+  pub view : wordsIn r ds ≡ wordsIn w cs
   pub whole : lines ds (r .starts) (r .count) ≡ lines cs (w .starts) (w .count)
   pub kept : Kept (w .starts) (w .top) cs ds
 

@@ -12,7 +12,7 @@ use Rattle.rule.specs.Training.{count}
 use Rattle.rule.specs.Sums.{symbolsIn}
 use Rattle.rule.proofs.Rewriting.{pair-hit, pair-miss}
 use Rattle.rule.proofs.Counts.{count-length}
-use Rattle.word.specs.Layout.{symbolIn, symbolsAt, corpus, entryAt, Found}
+use Rattle.word.specs.Layout.{symbolIn, symbolsAt, entryAt, Found, wordsIn}
 use Rattle.word.specs.declared.WordSet.{WordSet}
 use Rattle.word.specs.declared.Span.{Span}
 use Rattle.word.proofs.Views.{symbols-length, symbols-two, symbols-next, corpus-length, drop-entry}
@@ -72,40 +72,40 @@ module _ (es : List Entry) (k : ℕ) (h : k < length es) where
   weight-rest = rw (drop-entry es k h)
 
 -- a word's share, as the code makes it
-module _ (w : WordSet) (cs : List ℕ) (k p q sum hits f : ℕ) (r : Span) (h : k < w .count) (light : sum + symbolsIn (drop k (corpus cs (w .starts) (w .count))) < 2 ^ 53)
-    (found : Found w k cs r) (eh : hits ≡ countIn p q (symbolsAt (r .start) (r .length) cs)) (ef : f ≡ entryAt (corpus cs (w .starts) (w .count)) k .frequency) where
-  inside : k < length (corpus cs (w .starts) (w .count))
+module _ (w : WordSet) (cs : List ℕ) (k p q sum hits f : ℕ) (r : Span) (h : k < w .count) (light : sum + symbolsIn (drop k (wordsIn w cs)) < 2 ^ 53)
+    (found : Found w k cs r) (eh : hits ≡ countIn p q (symbolsAt (r .start) (r .length) cs)) (ef : f ≡ entryAt (wordsIn w cs) k .frequency) where
+  inside : k < length (wordsIn w cs)
   inside = omega (arith, corpus-length cs (w .starts) (w .count))
 
-  hits-are : hits ≡ countIn p q (entryAt (corpus cs (w .starts) (w .count)) k .symbols)
+  hits-are : hits ≡ countIn p q (entryAt (wordsIn w cs) k .symbols)
   hits-are = rw (found .symbols) at eh
 
-  share : f * hits ≤ entryAt (corpus cs (w .starts) (w .count)) k .frequency * length (entryAt (corpus cs (w .starts) (w .count)) k .symbols)
-  share = rw (hits-are, ef) (mul-le-mul-left (entryAt (corpus cs (w .starts) (w .count)) k .frequency) (count-length p q (entryAt (corpus cs (w .starts) (w .count)) k .symbols)))
+  share : f * hits ≤ entryAt (wordsIn w cs) k .frequency * length (entryAt (wordsIn w cs) k .symbols)
+  share = rw (hits-are, ef) (mul-le-mul-left (entryAt (wordsIn w cs) k .frequency) (count-length p q (entryAt (wordsIn w cs) k .symbols)))
 
   pub share-fits : f * hits < 2 ^ 64
-  share-fits = omega (arith, share, weight-rest (corpus cs (w .starts) (w .count)) k inside)
+  share-fits = omega (arith, share, weight-rest (wordsIn w cs) k inside)
 
   pub sum-fits : sum + f * hits < 2 ^ 64
-  sum-fits = omega (arith, share, weight-rest (corpus cs (w .starts) (w .count)) k inside)
+  sum-fits = omega (arith, share, weight-rest (wordsIn w cs) k inside)
 
-  pub counted : Counted (corpus cs (w .starts) (w .count)) k p q sum (sum + f * hits)
-  counted = record { is = rw (hits-are, ef); light = omega (arith, share, weight-rest (corpus cs (w .starts) (w .count)) k inside) }
+  pub counted : Counted (wordsIn w cs) k p q sum (sum + f * hits)
+  counted = record { is = rw (hits-are, ef); light = omega (arith, share, weight-rest (wordsIn w cs) k inside) }
 
 -- the loop
 module _ (p q : ℕ) (w : WordSet) (cs : List ℕ) where
-  pub sum-start : count p q (corpus cs (w .starts) (w .count)) ≡ 0 + count p q (drop 0 (corpus cs (w .starts) (w .count)))
+  pub sum-start : count p q (wordsIn w cs) ≡ 0 + count p q (drop 0 (wordsIn w cs))
   sum-start = omega arith
 
-  pub sum-turn : (k sum r : ℕ) → count p q (corpus cs (w .starts) (w .count)) ≡ sum + count p q (drop k (corpus cs (w .starts) (w .count))) → k < w .count
-      → Counted (corpus cs (w .starts) (w .count)) k p q sum r
-      → count p q (corpus cs (w .starts) (w .count)) ≡ r + count p q (drop (k + 1) (corpus cs (w .starts) (w .count)))
+  pub sum-turn : (k sum r : ℕ) → count p q (wordsIn w cs) ≡ sum + count p q (drop k (wordsIn w cs)) → k < w .count
+      → Counted (wordsIn w cs) k p q sum r
+      → count p q (wordsIn w cs) ≡ r + count p q (drop (k + 1) (wordsIn w cs))
   sum-turn k sum r inv h c =
-      omega (arith, count-rest (corpus cs (w .starts) (w .count)) k (omega (arith, corpus-length cs (w .starts) (w .count))) p q, c .is)
+      omega (arith, count-rest (wordsIn w cs) k (omega (arith, corpus-length cs (w .starts) (w .count))) p q, c .is)
 
-  pub sum-end : (k sum : ℕ) → count p q (corpus cs (w .starts) (w .count)) ≡ sum + count p q (drop k (corpus cs (w .starts) (w .count))) → w .count ≤ k
-      → sum ≡ count p q (corpus cs (w .starts) (w .count))
+  pub sum-end : (k sum : ℕ) → count p q (wordsIn w cs) ≡ sum + count p q (drop k (wordsIn w cs)) → w .count ≤ k
+      → sum ≡ count p q (wordsIn w cs)
   unfolding count
   sum-end k sum inv h =
-      let l : length (corpus cs (w .starts) (w .count)) ≤ k = omega (arith, corpus-length cs (w .starts) (w .count)) in
-      omega (arith, rw (drop-of-length-le (corpus cs (w .starts) (w .count)) l) at inv)
+      let l : length (wordsIn w cs) ≤ k = omega (arith, corpus-length cs (w .starts) (w .count)) in
+      omega (arith, rw (drop-of-length-le (wordsIn w cs) l) at inv)

@@ -6,7 +6,7 @@ ghost use Rattle.cells.specs.Cells.{cells};
 ghost use Rattle.rule.specs.Rewriting.{countIn};
 ghost use Rattle.rule.specs.Training.{count};
 ghost use Rattle.rule.specs.Sums.{symbolsIn};
-ghost use Rattle.word.specs.Layout.{symbolsAt, corpus, Words};
+ghost use Rattle.word.specs.Layout.{symbolsAt, corpus, Words, wordsIn};
 ghost use Rattle.counting.specs.Counting.{Tested, Counted};
 
 // 1 where (s,t) is (p,q), else 0.
@@ -44,7 +44,7 @@ fn count_in(room: &[u8], start: usize, n: usize, p: u32, q: u32) -> u64
 fn add_word(room: &[u8], w: word::WordSet, k: usize, p: u32, q: u32, sum: u64) -> u64
     requires { ⌜ Words w (cells (now room)) ⌝ }
     requires { ⌜ k < w .count ⌝ }
-    requires { ⌜ sum + symbolsIn (drop k (corpus (cells (now room)) (w .starts) (w .count))) < 2 ^ 53 ⌝ }
+    requires { ⌜ sum + symbolsIn (drop k (wordsIn w (cells (now room)))) < 2 ^ 53 ⌝ }
     ensures { λ r. ⌜ Counted (corpus (cells (now (room .entry))) (w .starts) (w .count)) k p q sum r ⌝ }
 {
     let at = word::word(room, w, k);
@@ -56,7 +56,7 @@ fn add_word(room: &[u8], w: word::WordSet, k: usize, p: u32, q: u32, sum: u64) -
 // The count of (p,q): the sum over the words of frequency times adjacent positions holding the pair.
 pub fn count_pair(room: &[u8], w: word::WordSet, p: u32, q: u32) -> u64
     requires { ⌜ Words w (cells (now room)) ⌝ }
-    requires { ⌜ symbolsIn (corpus (cells (now room)) (w .starts) (w .count)) < 2 ^ 53 ⌝ }
+    requires { ⌜ symbolsIn (wordsIn w (cells (now room))) < 2 ^ 53 ⌝ }
     ensures { λ r. ⌜ r ≡ count p q (corpus (cells (now (room .entry))) (w .starts) (w .count)) ⌝ }
 {
     let mut sum = 0;

@@ -5,13 +5,13 @@ use Prim.Native.Nat.{ℕ, _≤_}
 use native.Mathlib.Omega.{arith}
 use lib.ListN.{length, length-append}
 use Rattle.runs.specs.Parts.{laid, zeros}
-use Rattle.runs.proofs.Parts.{length-zeros, laid-laid}
+use Rattle.runs.proofs.Parts.{length-zeros, laid-laid, laid-all}
 use Rattle.numbers.specs.Little.{spell, store}
 use Rattle.numbers.proofs.Little.{length-spell}
 use Rattle.rule.specs.Shapes.{spellAll}
 use Rattle.rule.specs.Outcome.{told}
 use Rattle.rule.proofs.Lengths.{length-spellAll}
-use Rattle.trainer.proofs.Rooms.{laid-all, laid-filled}
+use Rattle.trainer.proofs.Rooms.{laid-filled}
 
 module _ (answer : List ℕ) (long : 64 ≤ length answer) where
   -- as `give` writes them

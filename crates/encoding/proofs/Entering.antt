@@ -19,7 +19,7 @@ use Rattle.intern.proofs.Many.{ran-cells, ran-slots, ran-then, ran-exceeds}
 use Rattle.intern.proofs.Lists.{interns-append}
 use Rattle.intern.proofs.Elsewhere.{pieces-elsewhere, pieces-kept}
 use Rattle.alphabet.specs.Seeds.{CanSeed}
-use Rattle.word.specs.Layout.{symbolsAt, corpus, Words}
+use Rattle.word.specs.Layout.{symbolsAt, Words, wordsIn}
 use Rattle.pushing.specs.Pushing.{Opened, Pushed}
 use Rattle.word.specs.declared.WordSet.{WordSet}
 use Rattle.encoding.specs.Encoding.{after, WordDone, EntryDone, WordsDone}
@@ -62,8 +62,8 @@ module _ (w : WordSet) (base cap c u f : ℕ) (p s : List ℕ) (us ms : List (Li
             k .set,
             k .view
                 ∙ ap (λ (t : List Entry). t ++ keep (nth (cells qs) (w .top)) (symbolsAt (w .top + 2) n (cells qs)) []) (b .view ∙ o .view)
-                ∙ ap (λ (i : ℕ). corpus (cells rs) (w .starts) (w .count) ++ keep i (symbolsAt (w .top + 2) n (cells qs)) []) (b .frequency ∙ o .frequency)
-                ∙ ap (λ (l : List ℕ). corpus (cells rs) (w .starts) (w .count) ++ keep f l []) (b .symbols),
+                ∙ ap (λ (i : ℕ). wordsIn w (cells rs) ++ keep i (symbolsAt (w .top + 2) n (cells qs)) []) (b .frequency ∙ o .frequency)
+                ∙ ap (λ (l : List ℕ). wordsIn w (cells rs) ++ keep f l []) (b .symbols),
           )
 
 -- ALL WORDS
@@ -86,7 +86,7 @@ pub record Entering (set : WordSet) (base cap c u : ℕ) (fs gs : List ℕ) (ds 
   pub ran : Ran base cap c u (after xs ys c (flatMap (λ d. d) ds)) (flatMap (λ d. d) todo) xs ys (cells qs) vs ws c′ u′
   pub slots : length (after xs ys c (flatMap (λ d. d) ds)) < cap
   pub words : Words w (cells qs)
-  pub view : corpus (cells qs) (w .starts) (w .count) ++ keptWith (after xs ys c (flatMap (λ d. d) ds)) gs todo ≡ keptWith (after xs ys c (flatMap (λ d. d) ds)) fs ds
+  pub view : wordsIn w (cells qs) ++ keptWith (after xs ys c (flatMap (λ d. d) ds)) gs todo ≡ keptWith (after xs ys c (flatMap (λ d. d) ds)) fs ds
   pub starts-is : w .starts ≡ set .starts
   pub low-is : w .low ≡ set .low
   pub room : w .top + 2 + 2 * total (map length todo) ≤ base
@@ -105,8 +105,8 @@ module _ (set : WordSet) (base cap c u : ℕ) (fs gs : List ℕ) (ds todo : List
   entering-end rs bytes k e = (
     rw e at (g .ran),
     g .words,
-    sym (append-nil (corpus (cells qs) (w .starts) (w .count)))
-        ∙ ap (λ (l : List Entry). corpus (cells qs) (w .starts) (w .count) ++ l) (sym (ap (keptWith (after xs ys c (flatMap (λ d. d) ds)) gs) e ∙ kept-end (after xs ys c (flatMap (λ d. d) ds)) gs))
+    sym (append-nil (wordsIn w (cells qs)))
+        ∙ ap (λ (l : List Entry). wordsIn w (cells qs) ++ l) (sym (ap (keptWith (after xs ys c (flatMap (λ d. d) ds)) gs) e ∙ kept-end (after xs ys c (flatMap (λ d. d) ds)) gs))
         ∙ g .view
         ∙ ap (λ (l : List ℕ). keptWith (after xs ys c (flatMap (λ d. d) ds)) l ds) k,
     g .starts-is,
@@ -157,9 +157,9 @@ module _ (set : WordSet) (base cap c u : ℕ) (fs gs : List ℕ) (ds todo : List
             slots = g .slots;
             words = h .2;
             view = ap (λ (l : List Entry). l ++ keptWith ps hs rest)
-                (h .3 ∙ ap (λ (l : List ℕ). corpus (cells qs) (w .starts) (w .count) ++ keep f l []) here)
-                ∙ append-assoc (corpus (cells qs) (w .starts) (w .count)) (keep f (map (numberOf ps) (decorate p s us)) []) (keptWith ps hs rest)
-                ∙ ap (λ (l : List Entry). corpus (cells qs) (w .starts) (w .count) ++ l) (sym (keep-append f (map (numberOf ps) (decorate p s us)) (keptWith ps hs rest)))
+                (h .3 ∙ ap (λ (l : List ℕ). wordsIn w (cells qs) ++ keep f l []) here)
+                ∙ append-assoc (wordsIn w (cells qs)) (keep f (map (numberOf ps) (decorate p s us)) []) (keptWith ps hs rest)
+                ∙ ap (λ (l : List Entry). wordsIn w (cells qs) ++ l) (sym (keep-append f (map (numberOf ps) (decorate p s us)) (keptWith ps hs rest)))
                 ∙ (rw (e, i) at (g .view));
             starts-is = t .starts-is ∙ g .starts-is;
             low-is = t .low-is ∙ g .low-is;

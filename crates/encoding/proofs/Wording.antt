@@ -10,7 +10,7 @@ use lib.ListN.{length, take, drop}
 use lib.Seq.{append-snoc, take-all}
 use borrow.Author.Tests.{eq-eqb, ne-eqb}
 use Rattle.runs.specs.Parts.{nth, part, Kept}
-use Rattle.runs.proofs.Parts.{same-or-not}
+use Rattle.runs.proofs.Parts.{same-or-not, eqb-sym}
 use Rattle.cells.specs.Cells.{cells}
 use Rattle.rfc3629.specs.Cut.{unitsBy}
 use Rattle.rule.specs.Spelling.{decorate}
@@ -31,7 +31,7 @@ use Rattle.intern.proofs.Elsewhere.{pieces-kept}
 use Rattle.alphabet.specs.Seeds.{CanSeed}
 use Rattle.alphabet.specs.declared.Seeded.{Seeded}
 use Rattle.alphabet.specs.declared.Seeded.the-variants as seeded
-use Rattle.word.specs.Layout.{symbolsAt, corpus, Words}
+use Rattle.word.specs.Layout.{symbolsAt, Words, wordsIn}
 use Rattle.pushing.specs.Pushing.{Added}
 use Rattle.word.specs.declared.WordSet.{WordSet}
 use Rattle.word.proofs.Sets.{words-kept, corpus-kept, symbols-kept}
@@ -95,9 +95,6 @@ flip : (b : Bool) (p : List ℕ) → cond (not b) p [] ≡ cond b [] p
 flip true p = refl
 flip false p = refl
 
-turned : (m n : ℕ) → eqb m n ≡ eqb n m
-turned m n = same-or-not m n (λ e. rw e) (λ e. ne-eqb m n e ∙ sym (ne-eqb n m (λ q. e (sym q))))
-
 -- a unit is the last if it ends where the word does
 last-unit : (whole : Bool) (s : List ℕ) (at to r : ℕ) → at < to → to ≤ length s → Next whole s at to r → eqb r to ≡ eqb 0 (length (unitsBy whole (part r (to - r) s)))
 last-unit whole s at to r a b x =
@@ -112,7 +109,7 @@ pub unit-spelled : (p s words : List ℕ) (whole : Bool) (n at to r lead tail : 
 unfolding part
 unit-spelled p s words whole n at to r lead tail a b x e f =
     dressed-of p s (take (lead - 0) (drop 0 p)) (take (tail - 0) (drop 0 s)) (take (r - at) (drop at words)) (eqb 0 n) (eqb 0 (length (unitsBy whole (part r (to - r) words))))
-    (side-part (not (eqb n 0)) lead p e ∙ flip (eqb n 0) p ∙ ap (λ (b : Bool). cond b [] p) (turned n 0))
+    (side-part (not (eqb n 0)) lead p e ∙ flip (eqb n 0) p ∙ ap (λ (b : Bool). cond b [] p) (eqb-sym n 0))
     (side-part (eqb r to) tail s f ∙ ap (λ (b : Bool). cond b s []) (last-unit whole words at to r a b x))
 
 -- A WORD: n units are done, and `todo` is to come
@@ -121,7 +118,7 @@ pub record Wording (w : WordSet) (base cap c u : ℕ) (p s : List ℕ) (us todo 
   pub ran : Ran base cap c u (after xs ys c (decorate p s us)) (dressedFrom p s (eqb 0 n) todo) xs ys (cells qs) vs ws c′ u′
   pub slots : length (after xs ys c (decorate p s us)) < cap
   pub set : Words w (cells qs)
-  pub view : corpus (cells qs) (w .starts) (w .count) ≡ corpus (cells rs) (w .starts) (w .count)
+  pub view : wordsIn w (cells qs) ≡ wordsIn w (cells rs)
   pub frequency : nth (cells qs) (w .top) ≡ nth (cells rs) (w .top)
   pub symbols : symbolsAt (w .top + 2) n (cells qs) ++ map (numberOf (after xs ys c (decorate p s us))) (dressedFrom p s (eqb 0 n) todo)
       ≡ map (numberOf (after xs ys c (decorate p s us))) (decorate p s us)

@@ -13,7 +13,7 @@ use Rattle.intern.specs.Pieces.{pieces}
 use Rattle.intern.specs.Many.{Ran, Exceed}
 use Rattle.alphabet.specs.declared.Seeded.{Seeded}
 use Rattle.alphabet.specs.declared.Seeded.the-variants as seeded
-use Rattle.word.specs.Layout.{symbolsAt, corpus, Words}
+use Rattle.word.specs.Layout.{symbolsAt, Words, wordsIn}
 use Rattle.pushing.specs.Pushing.{Takes}
 use Rattle.word.specs.declared.WordSet.{WordSet}
 use Rattle.encoding.specs.declared.Worded.{Worded}
@@ -36,7 +36,7 @@ after xs ys n ss = foldl intern (pieces xs ys n) ss
 -- the set w has the words es, and the open word at its top has the frequency f and the n symbols ss
 pub record Open (w : WordSet) (es : List Entry) (f n : ℕ) (ss cs : List ℕ) : Type 0 where
   pub set : Words w cs
-  pub view : corpus cs (w .starts) (w .count) ≡ es
+  pub view : wordsIn w cs ≡ es
   pub frequency : nth cs (w .top) ≡ f
   pub symbols : symbolsAt (w .top + 2) n cs ≡ ss
 
@@ -44,7 +44,7 @@ pub record Open (w : WordSet) (es : List Entry) (f n : ℕ) (ss cs : List ℕ) :
 unfoldable pub UnitDone : Seeded → WordSet → ℕ → ℕ → ℕ → ℕ → ℕ → List ℕ → List ℕ → List ℕ → List ℕ → List ℕ → List ℕ → List ℕ → Type 0
 UnitDone (seeded.Done c′ u′) w n base cap c u s rs xs ys qs vs ws =
     Ran base cap c u (after xs ys c (s ∷ [])) [] xs ys (cells qs) vs ws c′ u′
-    × Open w (corpus (cells rs) (w .starts) (w .count)) (nth (cells rs) (w .top)) (n + 1)
+    × Open w (wordsIn w (cells rs)) (nth (cells rs) (w .top)) (n + 1)
     (symbolsAt (w .top + 2) n (cells rs) ++ (numberOf (after xs ys c (s ∷ [])) s ∷ [])) (cells qs)
 UnitDone seeded.NoRoom w n base cap c u s rs xs ys qs vs ws = Exceed (after xs ys c (s ∷ [])) xs ys
 
@@ -53,7 +53,7 @@ unfoldable pub WordDone : Worded → WordSet → ℕ → ℕ → ℕ → ℕ →
 WordDone (worded.Done c′ u′ n) w base cap c u p s us rs xs ys qs vs ws =
     Ran base cap c u (after xs ys c (decorate p s us)) [] xs ys (cells qs) vs ws c′ u′
     × (n ≡ length us)
-    × Open w (corpus (cells rs) (w .starts) (w .count)) (nth (cells rs) (w .top)) n (map (numberOf (after xs ys c (decorate p s us))) (decorate p s us)) (cells qs)
+    × Open w (wordsIn w (cells rs)) (nth (cells rs) (w .top)) n (map (numberOf (after xs ys c (decorate p s us))) (decorate p s us)) (cells qs)
 WordDone worded.NoRoom w base cap c u p s us rs xs ys qs vs ws = Exceed (after xs ys c (decorate p s us)) xs ys
 
 -- A WORD of frequency f is behind those of the set, if it is kept
@@ -62,8 +62,8 @@ EntryDone (encoded.Done c′ u′ w′) w base cap c u f p s us rs xs ys qs vs w
     Ran base cap c u (after xs ys c (decorate p s us)) [] xs ys (cells qs) vs ws c′ u′
     × Takes w (length us) w′
     × Words w′ (cells qs)
-    × (corpus (cells qs) (w′ .starts) (w′ .count)
-    ≡ corpus (cells rs) (w .starts) (w .count) ++ keep f (map (numberOf (after xs ys c (decorate p s us))) (decorate p s us)) [])
+    × (wordsIn w′ (cells qs)
+    ≡ wordsIn w (cells rs) ++ keep f (map (numberOf (after xs ys c (decorate p s us))) (decorate p s us)) [])
 EntryDone encoded.NoRoom w base cap c u f p s us rs xs ys qs vs ws = Exceed (after xs ys c (decorate p s us)) xs ys
 
 -- an empty set below the table, with room for all words: two cells for each unit, and a place for every two
@@ -79,7 +79,7 @@ unfoldable pub WordsDone : Encoded → WordSet → ℕ → ℕ → ℕ → ℕ �
 WordsDone (encoded.Done c′ u′ w′) w base cap c u fs ds rs xs ys qs vs ws =
     Ran base cap c u (after xs ys c (flatMap (λ d. d) ds)) [] xs ys (cells qs) vs ws c′ u′
     × Words w′ (cells qs)
-    × (corpus (cells qs) (w′ .starts) (w′ .count) ≡ keptWith (after xs ys c (flatMap (λ d. d) ds)) (numbers 8 fs) ds)
+    × (wordsIn w′ (cells qs) ≡ keptWith (after xs ys c (flatMap (λ d. d) ds)) (numbers 8 fs) ds)
     × (w′ .starts ≡ w .starts)
     × (w′ .low ≡ w .low)
     × (w′ .top ≤ w .top + 2 * total (map length ds))

@@ -15,10 +15,10 @@ use Rattle.rule.proofs.Counts.{count-gone, all-under-more}
 use Rattle.lazy.specs.Lazy.{gained as gainedQueue}
 use Rattle.queue.specs.declared.Candidate.{Candidate}
 use Rattle.queue.specs.Holding.{In, Holds}
-use Rattle.queue.proofs.Holding.{holds-kept}
+use Rattle.queue.proofs.Holding.{holds-kept, in-append}
 use Rattle.marks.specs.Marks.{touched, gained, marking}
 use Rattle.marks.proofs.Marks.{marked-other, marked-none}
-use Rattle.word.specs.Layout.{Words}
+use Rattle.word.specs.Layout.{Words, wordsIn}
 use Rattle.word.specs.declared.WordSet.{WordSet}
 use Rattle.word.proofs.Sets.{words-kept, corpus-kept}
 use Rattle.states.specs.State.{State, blank, most, key, OfPair, Change}
@@ -40,9 +40,9 @@ use Rattle.settling.specs.Settling.{CanSettle, SettleDone}
 use Rattle.joining.specs.Joining.{Midway, JoinedAll}
 use Rattle.joining.specs.declared.Joined.{Joined}
 use Rattle.engine.specs.declared.Engine.{Engine}
-use Rattle.engine.specs.Engine.{wordsIn, Limits, Queued, Waiting, Engaged, CanJoin, JoinDone, Tidied}
+use Rattle.engine.specs.Engine.{Limits, Queued, Waiting, Engaged, CanJoin, JoinDone, Tidied}
 use Rattle.engine.proofs.Sums.{gone-entry}
-use Rattle.engine.proofs.Queues.{queued-older, queued-join, queued-room, gainer-keys, in-append}
+use Rattle.engine.proofs.Queues.{queued-older, queued-join, queued-room, gainer-keys}
 
 -- a state with the mark of a touch
 abbrev touchedState : State → State

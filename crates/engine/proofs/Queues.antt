@@ -2,7 +2,7 @@
 use mathlib.Core.Path.{_≡_, refl}
 use mathlib.Core.Bool.{true}
 use mathlib.Core.List.{List, [], _∷_, _++_}
-use mathlib.Core.Logic.{_⊎_, inl, inr, ⊎-elim}
+use mathlib.Core.Logic.{_⊎_, ⊎-elim}
 use Prim.Native.Nat.{ℕ, suc, _*_, _<_, _≤_}
 use native.Mathlib.Omega.{arith}
 use lib.ListN.{length}
@@ -10,14 +10,14 @@ use Rattle.runs.specs.Parts.{nth}
 use Rattle.rule.specs.Table.{Task}
 use Rattle.rule.specs.Seeding.{Entry}
 use Rattle.rule.specs.Sums.{AllUnder, inUse}
-use Rattle.rule.specs.Training.{Choice, joinedOf, rewriteAll}
+use Rattle.rule.specs.Training.{Choice, joinedOf, rewriteAll, limits}
 use Rattle.lazy.specs.Lazy.{seeds, wordsWith, gained as gainedQueue}
 use Rattle.lazy.specs.Invariant.{Every}
 use Rattle.lazy.proofs.Invariant.{inv-seeds, inv-join}
 use Rattle.lazy.proofs.Bound.{potential-seeds, potential-join, room-seeds, room-join}
 use Rattle.queue.specs.declared.Candidate.{Candidate}
 use Rattle.queue.specs.Holding.{In}
-use Rattle.queue.proofs.Holding.{in-none, in-either, in-head, in-tail}
+use Rattle.queue.proofs.Holding.{in-none, in-either}
 use Rattle.marks.specs.Marks.{gained, marked}
 use Rattle.states.specs.State.{State}
 use Rattle.waiting.specs.Waiting.{gainers}
@@ -25,23 +25,9 @@ use Rattle.waiting.proofs.Entered.{gainers-case}
 use Rattle.waiting.proofs.Gained.{Older, fair-older}
 use Rattle.engine.specs.Engine.{Limits, Queued}
 
--- SOME TASK with a prefix and a limit: what is known of every such task is known
-abbrev taskOf : List ℕ → ℕ → Task
-taskOf prefix limit = record {
-  wordBytes = [];
-  wordEnds = [];
-  frequencyBytes = [];
-  alphabetBytes = [];
-  alphabetEnds = [];
-  prefix = prefix;
-  suffix = [];
-  seeding = 0;
-  vocabSize = 0;
-  minFrequency = 0;
-  maxPieceLength = limit;
-}
-
-limits-of : (prefix : List ℕ) (limit : ℕ) → Limits (taskOf prefix limit) prefix limit
+-- THE TASK with a prefix and a limit: what is known of every such task is known
+limits-of : (prefix : List ℕ) (limit : ℕ) → Limits (limits prefix limit) prefix limit
+unfolding limits
 limits-of prefix limit = record { prefix-is = refl; limit-is = refl }
 
 -- AT THE START every pair that occurs waits
@@ -54,16 +40,16 @@ queued-start prefix limit ps es places u h =
 module _ {prefix : List ℕ} {limit : ℕ} {ps : List (List ℕ)} {es : List Entry} {places k : ℕ} {e : Choice} {qu : List Choice}
     (q : Queued prefix limit ps es places k (e ∷ qu)) where
   pub queued-older : (x : ℕ) → length ps ≡ x → Every (Older x) qu
-  queued-older x h = fair-older ps es x h qu (q .inv (taskOf prefix limit) (limits-of prefix limit) .fair .1)
+  queued-older x h = fair-older ps es x h qu (q .inv (limits prefix limit) (limits-of prefix limit) .fair .1)
 
   queued-with : (s : List ℕ) → ((t : Task) → Limits t prefix limit → joinedOf t ps (e .left) (e .right) ≡ s)
       → Queued prefix limit (ps ++ (s ∷ [])) (wordsWith ps es e) places k (gainedQueue (length ps) (wordsWith ps es e) qu)
   queued-with s f =
-      let i = q .inv (taskOf prefix limit) (limits-of prefix limit) in
+      let i = q .inv (limits prefix limit) (limits-of prefix limit) in
       record {
         inv = λ t l. rw (← f t l) (inv-join t ps es e qu (q .inv t l));
-        fuel = omega (arith, potential-join (taskOf prefix limit) ps es e qu i, q .fuel);
-        few = omega (arith, room-join (taskOf prefix limit) ps es e qu i, q .few);
+        fuel = omega (arith, potential-join (limits prefix limit) ps es e qu i, q .fuel);
+        few = omega (arith, room-join (limits prefix limit) ps es e qu i, q .few);
       }
 
   -- and after it the pairs that gained wait too
@@ -74,8 +60,8 @@ module _ {prefix : List ℕ} {limit : ℕ} {ps : List (List ℕ)} {es : List Ent
 
     pub queued-room : length (gainedQueue x (rewriteAll a b x es) qu) ≤ places
     queued-room =
-        let i = q .inv (taskOf prefix limit) (limits-of prefix limit) in
-        rw (← n, ← l, ← r) (omega (arith, room-join (taskOf prefix limit) ps es e qu i, q .few))
+        let i = q .inv (limits prefix limit) (limits-of prefix limit) in
+        rw (← n, ← l, ← r) (omega (arith, room-join (limits prefix limit) ps es e qu i, q .few))
 
 -- THE KEYS OF THE CANDIDATES are those of touched pairs that have gained
 module _ (σ : ℕ → State) (P : ℕ → Type 0) where
@@ -92,11 +78,3 @@ module _ (σ : ℕ → State) (P : ℕ → Type 0) where
       (in-either f (record { count = σ c .count; key = c }) (gainers σ ks) i))
       (λ _ i. rest i)
       m
-
--- what is in two lists is in one of them
-pub in-append : (f : Candidate) (xs ys : List Candidate) → In f (xs ++ ys) → In f xs ⊎ In f ys
-in-append f [] ys m = inr m
-in-append f (x ∷ xs) ys m = ⊎-elim
-    (λ (z : f ≡ x). inl (in-head f x xs z))
-    (λ (i : In f (xs ++ ys)). ⊎-elim (λ (j : In f xs). inl (in-tail f x xs j)) (λ (j : In f ys). inr j) (in-append f xs ys i))
-    (in-either f x (xs ++ ys) m)

@@ -11,7 +11,7 @@ use Rattle.runs.proofs.Frames.{kept-laid, kept-wide, kept-then}
 use Rattle.rule.specs.Sums.{AllUnder, inUse}
 use Rattle.queue.proofs.Holding.{holds-none}
 use Rattle.rule.proofs.Counts.{all-under-more}
-use Rattle.word.specs.Layout.{Words}
+use Rattle.word.specs.Layout.{Words, wordsIn}
 use Rattle.word.specs.declared.WordSet.{WordSet}
 use Rattle.word.proofs.Sets.{words-kept, corpus-kept}
 use Rattle.states.specs.State.{State, most, OfPair}
@@ -27,7 +27,7 @@ use Rattle.waiting.proofs.Entered.{few-gainers}
 use Rattle.waiting.proofs.Gained.{queue-seeds}
 use Rattle.census.specs.Census.{CanCount, CountDone}
 use Rattle.settling.specs.Settling.{CanSettle, SettleDone}
-use Rattle.engine.specs.Engine.{wordsIn, Waiting, CanStart, Started, CanClear, Cleared}
+use Rattle.engine.specs.Engine.{Waiting, CanStart, Started, CanClear, Cleared}
 use Rattle.engine.proofs.Queues.{queued-start, gainer-keys}
 
 -- CLEARED CELLS

@@ -12,7 +12,7 @@ use Rattle.lazy.specs.Sums.{potential}
 use Rattle.lazy.specs.Invariant.{Inv}
 use Rattle.queue.specs.declared.Candidate.{Candidate}
 use Rattle.queue.specs.Holding.{In, Holds}
-use Rattle.word.specs.Layout.{corpus, Words}
+use Rattle.word.specs.Layout.{Words, wordsIn}
 use Rattle.word.specs.declared.WordSet.{WordSet}
 use Rattle.states.specs.State.{most, key, OfPair}
 use Rattle.states.specs.Tracking.{Tracks, Calm, Weighed}
@@ -22,10 +22,6 @@ use Rattle.pairs.specs.declared.Pairs.{Pairs}
 use Rattle.reports.specs.Reports.{beyond}
 use Rattle.waiting.specs.Waiting.{queueOf}
 use Rattle.engine.specs.declared.Engine.{Engine}
-
--- the words of a set
-abbrev pub wordsIn : WordSet → List ℕ → List Entry
-wordsIn w cs = corpus cs (w .starts) (w .count)
 
 -- THE STATES TRACK THE WORDS, where x pieces are made; behind the pair states is place for the queue, which begins at the cell q
 pub record Engaged (w : WordSet) (p : Pairs) (q x : ℕ) (cs : List ℕ) : Type 0 where

@@ -77,7 +77,7 @@ pub fn join(room: &mut [u8], g: Engine, a: u32, b: u32, x: u32) -> Engine
 {
     let p = g.pairs;
     let w = g.words;
-    let key = reports::key(a, b);
+    let key = states::key(a, b);
     let v = pairs::find(room, p, key);
     let r = (v - 1) as usize;
     mark(room, p, key, r);

@@ -7,7 +7,6 @@
 ghost use mathlib.Core.Path.{_≡_};
 ghost use Prim.Native.Nat.{_<_, _≤_};
 ghost use Rattle.cells.specs.Cells.{cells};
-ghost use Rattle.cells.specs.Ring.{after};
 ghost use Rattle.index.specs.Index.{mix, home, slot, value, Index, CanInsert, Inserted, CanErase, Erased, AtSlot, NewSlot, PutValue, PutKey};
 
 // What a lookup finds: the key's slot, the vacant slot where it would go, or neither.
@@ -42,14 +41,6 @@ fn start(cap: usize, key: u64) -> usize
     row
 }
 
-// The slot after i.
-fn next(cap: usize, i: usize) -> usize
-    requires { ⌜ i < cap ⌝ }
-    ensures { λ r. ⌜ (r ≡ after cap i) × (r < cap) ⌝ }
-{
-    if i + 1 == cap { 0 } else { i + 1 }
-}
-
 // Where a key is, or would go. At most `cap` slots are looked at.
 fn find(room: &[u8], base: usize, cap: usize, key: u64) -> Found
     requires { ⌜ Index base cap (cells (now room)) ⌝ }
@@ -65,7 +56,7 @@ fn find(room: &[u8], base: usize, cap: usize, key: u64) -> Found
         if x == 0 {
             return Found::Vacant(i);
         }
-        i = next(cap, i);
+        i = cells::next(cap, i);
         left -= 1;
     }
     Found::Full

@@ -18,8 +18,9 @@ use Rattle.intern.specs.Pieces.{pieces, Held}
 use Rattle.intern.specs.Seek.{vacancies}
 use Rattle.intern.specs.Intern.{Pieces, CanIntern, Gave, Lacks}
 use Rattle.intern.specs.Many.{Ran, Exceed}
-use Rattle.intern.proofs.Rooms.{start-first, piece-part, pieces-none, pieces-more, length-pieces}
+use Rattle.intern.proofs.Rooms.{piece-part, pieces-none, pieces-more, length-pieces}
 use Rattle.intern.proofs.Lists.{interns-append, bytes-more, length-bytes-more, interns-grow}
+use Rattle.rule.proofs.Reading.{start-first}
 
 -- WHAT THE PIECE ROOM HOLDS
 

@@ -16,12 +16,9 @@ use Rattle.numbers.proofs.Little.{length-spell, length-store, load-store, load-
 use Rattle.cells.proofs.Cells.{length-cells, nth-cells}
 use Rattle.rule.specs.Layout.{pieceStart, pieceLength, pieceAt}
 use Rattle.intern.specs.Pieces.{pieces, Held}
+use Rattle.rule.proofs.Reading.{start-first}
 
 -- WHERE A PIECE STARTS
-
-pub start-first : (ys : List ℕ) (n : ℕ) → n ≡ 0 → 0 ≡ pieceStart ys n
-unfolding pieceStart
-start-first ys n e = rw e
 
 start-suc : (ys : List ℕ) (n : ℕ) → n * 4 + 4 ≤ length ys → pieceStart ys (n + 1) ≡ load 4 ys (n * 4)
 unfolding pieceStart nth

@@ -11,24 +11,11 @@ ghost use Prim.Native.Nat.{_+_, _*_, _%_, _<_, _≤_};
 ghost use lib.ListN.{length};
 ghost use lib.Dec.{leb};
 ghost use Rattle.cells.specs.Cells.{cells};
-ghost use Rattle.cells.specs.Ring.{after};
-ghost use Rattle.rule.specs.Layout.{pieceStart};
 ghost use Rattle.intern.specs.Pieces.{Held};
 ghost use Rattle.intern.specs.Intern.{spelt, look, Pieces, CanIntern, CanAdd, Answer};
 
 // The end of a piece has 4 bytes.
 const LONGEST: usize = 4294967295;
-
-// Where the piece n starts, which is where the one before it ends.
-pub fn piece_start(ends: &[u8], n: usize) -> usize
-    requires { ⌜ n * 4 ≤ length (now ends) ⌝ }
-    ensures { λ r. ⌜ r ≡ pieceStart (now (ends .entry)) n ⌝ }
-{
-    if n == 0 {
-        return 0;
-    }
-    numbers::load4(ends, (n - 1) * 4) as usize
-}
 
 // Tells whether the piece of the slot x has this spelling. Bytes are compared only where the hash
 // agrees.
@@ -50,17 +37,9 @@ fn is_spelled(
         return false;
     }
     let k = (x % 4294967296 - 1) as usize;
-    let from = piece_start(ends, k);
-    let to = piece_start(ends, k + 1);
+    let from = vocab::piece_start(ends, k);
+    let to = vocab::piece_start(ends, k + 1);
     spells::equal_three(prefix, unit, suffix, &pieces[from..to])
-}
-
-// The slot after i.
-fn next(cap: usize, i: usize) -> usize
-    requires { ⌜ i < cap ⌝ }
-    ensures { λ r. ⌜ (r ≡ after cap i) × (r < cap) ⌝ }
-{
-    if i + 1 == cap { 0 } else { i + 1 }
 }
 
 // What a lookup finds: the number of the piece, the vacant slot where it would go, or neither.
@@ -97,7 +76,7 @@ fn find(
         if is_spelled(x, hash, pieces, ends, count, used, prefix, unit, suffix) {
             return Found::At((x % 4294967296 - 1) as usize);
         }
-        i = next(cap, i);
+        i = cells::next(cap, i);
         left -= 1;
     }
     Found::Full

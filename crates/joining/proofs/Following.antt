@@ -11,7 +11,7 @@ use Rattle.runs.proofs.Frames.{kept-none, kept-then, kept-wide, kept-put}
 use Rattle.rule.specs.Rewriting.{Report, before, after}
 use Rattle.rule.specs.Seeding.{Entry}
 use Rattle.rule.specs.Sums.{raised, symbolsIn}
-use Rattle.word.specs.Layout.{corpus}
+use Rattle.word.specs.Layout.{wordsIn}
 use Rattle.word.specs.declared.WordSet.{WordSet}
 use Rattle.word.proofs.Views.{corpus-length}
 use Rattle.marks.specs.Marks.{gained, marked}
@@ -33,7 +33,7 @@ use Rattle.joining.proofs.Words.{with-same, weight-with, weight-share, 
 
 module _ (a b x : ℕ) (w : WordSet) (p : Pairs) (k n : ℕ) (cs : List ℕ) (σ : Midway a b x w p n cs) (hk : k < w .count) where
   abbrev words : List Entry
-  words = corpus cs (w .starts) (w .count)
+  words = wordsIn w cs
 
   inside : k < length words
   inside = omega (arith, corpus-length cs (w .starts) (w .count))

@@ -10,7 +10,7 @@ use Rattle.runs.proofs.Frames.{kept-put}
 use Rattle.rule.specs.Rewriting.{rewrite, rewrites}
 use Rattle.rule.specs.Seeding.{Entry}
 use Rattle.rule.proofs.Rewriting.{length-rewrite}
-use Rattle.word.specs.Layout.{corpus, SameIn, Words}
+use Rattle.word.specs.Layout.{SameIn, Words, wordsIn}
 use Rattle.word.specs.declared.WordSet.{WordSet}
 use Rattle.word.proofs.Sets.{placed, corpus-as-it-was, words-as-they-were}
 use Rattle.merge.specs.Cells.{RewrittenWord}
@@ -33,7 +33,7 @@ module _ (a b x : ℕ) (w : WordSet) (p : Pairs) (k n kept m : ℕ) (cs ds : Lis
   place = spot w k cs
 
   abbrev words : List Entry
-  words = corpus cs (w .starts) (w .count)
+  words = wordsIn w cs
 
   -- the cells once the length is put, and as they are seen below the states
   abbrev after : List ℕ
@@ -90,7 +90,7 @@ module _ (a b x : ℕ) (w : WordSet) (p : Pairs) (k n kept m : ℕ) (cs ds : Lis
   set : Words shorter after
   set = words-as-they-were shorter seen after (merged .set) same-long same-places same-words
 
-  view : corpus after (w .starts) (w .count) ≡ changeAt (rewrite a b x) k words
+  view : wordsIn w after ≡ changeAt (rewrite a b x) k words
   view = corpus-as-it-was shorter seen after (merged .set) same-long same-places same-words ∙ merged .view
 
   follows : Following a b x w p k n m (rewrite a b x (wordOf w k cs .symbols)) cs after

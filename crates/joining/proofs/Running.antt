@@ -14,7 +14,7 @@ use Rattle.runs.proofs.Frames.{kept-none, kept-put, kept-part}
 use Rattle.rule.specs.Rewriting.{rewrite, before, after}
 use Rattle.step.specs.Step.{reportsOf}
 use Rattle.step.specs.declared.Step.{Step}
-use Rattle.word.specs.Layout.{symbolIn, symbolsAt, corpus, entryAt, Found}
+use Rattle.word.specs.Layout.{symbolIn, symbolsAt, entryAt, Found, wordsIn}
 use Rattle.word.specs.declared.WordSet.{WordSet}
 use Rattle.word.specs.declared.Span.{Span}
 use Rattle.word.proofs.Views.{symbol-alone, symbols-length, symbols-none, symbols-same, nth-symbols}
@@ -35,7 +35,7 @@ base-in : (a b x : ℕ) (w : WordSet) (p : Pairs) (n : ℕ) (cs : List ℕ) → 
 base-in a b x w p n cs σ = omega (arith, σ .ok .room)
 
 pub running-start : (a b x : ℕ) (w : WordSet) (p : Pairs) (k n f : ℕ) (cs : List ℕ) (here : Span) → Midway a b x w p n cs → k < w .count
-    → f ≡ entryAt (corpus cs (w .starts) (w .count)) k .frequency → Found w k cs here
+    → f ≡ entryAt (wordsIn w cs) k .frequency → Found w k cs here
     → Running a b x w p k n (here .start) (here .length) f 0 (here .start) (here .length) n false 0 cs cs
 unfolding lastOf
 running-start a b x w p k n f cs here σ hk ef g = record {

@@ -13,7 +13,7 @@ use Rattle.rule.specs.Rewriting.{rewrite, countIn}
 use Rattle.rule.specs.Seeding.{Entry}
 use Rattle.rule.specs.Training.{rewriteAll}
 use Rattle.rule.proofs.Rewriting.{gone}
-use Rattle.word.specs.Layout.{corpus, entryAt}
+use Rattle.word.specs.Layout.{entryAt, wordsIn}
 use Rattle.word.specs.declared.WordSet.{WordSet}
 use Rattle.word.proofs.Views.{corpus-length}
 use Rattle.merge.specs.Merging.{changeAt}
@@ -108,7 +108,7 @@ module _ {a b x : ℕ} {w : WordSet} {p : Pairs} {n : ℕ} {cs : List ℕ} (σ :
 
   module _ {r : ℕ} (h : Has p (key a b) r cs) {i k : ℕ} (l : i < length list) (next : k ≡ nth list i) {es : List ℕ} {d : Joined} (g : JoinedWord a b x w p k cs es d) where
     abbrev words : List Entry
-    words = corpus cs (w .starts) (w .count)
+    words = wordsIn w cs
 
     new-left : x ≡ a → ⊥
     new-left e = omega (arith, σ .left)
@@ -192,7 +192,7 @@ module _ {a b x : ℕ} {w : WordSet} {p : Pairs} {r i j m : ℕ} {v : WordSet} {
 
   -- where the whole list is visited, no word holds the pair
   pub visiting-end : i ≡ 0 → length visited ≤ j → JoinedAll a b x w p cs ds (record { words = v; touched = m })
-  visiting-end first all = record { midway = σ .midway; view = sym (rewrite-all-none a b x (corpus ds (v .starts) (v .count)) none) ∙ σ .view; numbers = σ .numbers; records = σ .records; kept = σ .kept }
+  visiting-end first all = record { midway = σ .midway; view = sym (rewrite-all-none a b x (wordsIn v ds) none) ∙ σ .view; numbers = σ .numbers; records = σ .records; kept = σ .kept }
     where
       -- a word that held the pair would stand in the list
       listed : (k : ℕ) → Among k (state p ds (key a b) .words) → holds a b v k ds ≡ 0

@@ -6,7 +6,7 @@ use Rattle.runs.specs.Parts.{Kept}
 use Rattle.rule.specs.Rewriting.{rewrite}
 use Rattle.rule.specs.Sums.{AllUnder, symbolsIn}
 use Rattle.rule.specs.Training.{rewriteAll}
-use Rattle.word.specs.Layout.{corpus, Words, Numbers}
+use Rattle.word.specs.Layout.{Words, Numbers, wordsIn}
 use Rattle.word.specs.declared.WordSet.{WordSet}
 use Rattle.merge.specs.Merging.{changeAt}
 use Rattle.states.specs.State.{most, key}
@@ -22,22 +22,22 @@ pub record Midway (a b x : ℕ) (w : WordSet) (p : Pairs) (n : ℕ) (cs : List �
   pub words : Words w cs
   pub apart : w .top ≤ p .base
   pub ok : Pairing p cs
-  pub tracks : Tracks (state p cs) (key a b) (corpus cs (w .starts) (w .count))
+  pub tracks : Tracks (state p cs) (key a b) (wordsIn w cs)
   pub gaining : Gaining (state p cs) x
   pub listing : Listing p (key a b) n cs
   pub left : a < x
   pub right : b < x
   pub new : x < most
-  pub under : AllUnder (x + 1) (corpus cs (w .starts) (w .count))
-  pub light : symbolsIn (corpus cs (w .starts) (w .count)) < 2 ^ 53
-  pub weighed : Weighed (corpus cs (w .starts) (w .count))
+  pub under : AllUnder (x + 1) (wordsIn w cs)
+  pub light : symbolsIn (wordsIn w cs) < 2 ^ 53
+  pub weighed : Weighed (wordsIn w cs)
   pub space : made p cs + 2 * w .live ≤ p .most
   pub places : n + 4 * w .live ≤ 2 * p .most
 
 -- word k is rewritten, and the states track the words again
 pub record JoinedWord (a b x : ℕ) (w : WordSet) (p : Pairs) (k : ℕ) (cs ds : List ℕ) (r : Joined) : Type 0 where
   pub midway : Midway a b x (r .words) p (r .touched) ds
-  pub view : corpus ds (r .words .starts) (r .words .count) ≡ changeAt (rewrite a b x) k (corpus cs (w .starts) (w .count))
+  pub view : wordsIn (r .words) ds ≡ changeAt (rewrite a b x) k (wordsIn w cs)
   pub numbers : Numbers (r .words) (w .starts) (w .count) (w .low) (w .top) (r .words .live)
   pub list : state p ds (key a b) .words ≡ state p cs (key a b) .words
   pub records : Staying p cs ds
@@ -46,7 +46,7 @@ pub record JoinedWord (a b x : ℕ) (w : WordSet) (p : Pairs) (k : ℕ) (cs ds :
 -- every word is rewritten
 pub record JoinedAll (a b x : ℕ) (w : WordSet) (p : Pairs) (cs ds : List ℕ) (r : Joined) : Type 0 where
   pub midway : Midway a b x (r .words) p (r .touched) ds
-  pub view : corpus ds (r .words .starts) (r .words .count) ≡ rewriteAll a b x (corpus cs (w .starts) (w .count))
+  pub view : wordsIn (r .words) ds ≡ rewriteAll a b x (wordsIn w cs)
   pub numbers : Numbers (r .words) (w .starts) (w .count) (w .low) (w .top) (r .words .live)
   pub records : Staying p cs ds
   pub kept : Kept (w .low) (beyond p) cs ds

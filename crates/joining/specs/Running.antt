@@ -10,7 +10,7 @@ use Rattle.rule.specs.Seeding.{Entry}
 use Rattle.rule.specs.Sums.{Under}
 use Rattle.step.specs.Step.{standing, reportsOf}
 use Rattle.step.specs.declared.Step.{Step}
-use Rattle.word.specs.Layout.{symbolsAt, corpus, entryAt}
+use Rattle.word.specs.Layout.{symbolsAt, entryAt, wordsIn}
 use Rattle.word.specs.declared.WordSet.{WordSet}
 use Rattle.merge.specs.Cells.{Run, Rewritten}
 use Rattle.states.specs.State.{key}
@@ -31,7 +31,7 @@ size w k cs = nth cs (nth cs (w .starts + k) + 1)
 
 -- its symbols and its frequency
 abbrev pub wordOf : WordSet → ℕ → List ℕ → Entry
-wordOf w k cs = entryAt (corpus cs (w .starts) (w .count)) k
+wordOf w k cs = entryAt (wordsIn w cs) k
 
 -- the cells below a place as they are, and the others as they were: so the words of a set that lies below are seen alone
 unfoldable pub beneath : ℕ → List ℕ → List ℕ → List ℕ
@@ -60,7 +60,7 @@ pub record Hits (a b x : ℕ) (has : Bool) (previous : ℕ) (l : List ℕ) (st :
 -- two entries and four touches
 pub record Following (a b x : ℕ) (w : WordSet) (p : Pairs) (k n m : ℕ) (l cs ds : List ℕ) : Type 0 where
   pub ok : Pairing p ds
-  pub tracks : Tracks (state p ds) (key a b) (withWord k l (corpus cs (w .starts) (w .count)))
+  pub tracks : Tracks (state p ds) (key a b) (withWord k l (wordsIn w cs))
   pub gaining : Gaining (state p ds) x
   pub listing : Listing p (key a b) m ds
   pub under : Under (x + 1) l

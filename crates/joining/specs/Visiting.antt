@@ -8,7 +8,7 @@ use lib.ListN.{length}
 use Rattle.runs.specs.Parts.{nth, Kept}
 use Rattle.rule.specs.Rewriting.{countIn}
 use Rattle.rule.specs.Training.{rewriteAll}
-use Rattle.word.specs.Layout.{corpus, Words, Numbers}
+use Rattle.word.specs.Layout.{Words, Numbers, wordsIn}
 use Rattle.word.specs.declared.WordSet.{WordSet}
 use Rattle.states.specs.State.{key}
 use Rattle.pairs.specs.View.{state}
@@ -43,7 +43,7 @@ pub record Visiting (a b x : ℕ) (w : WordSet) (p : Pairs) (r i j m : ℕ) (v :
   pub midway : Midway a b x v p m ds
   pub has : Has p (key a b) r ds
   pub numbers : Numbers v (w .starts) (w .count) (w .low) (w .top) (v .live)
-  pub view : rewriteAll a b x (corpus ds (v .starts) (v .count)) ≡ rewriteAll a b x (corpus cs (w .starts) (w .count))
+  pub view : rewriteAll a b x (wordsIn v ds) ≡ rewriteAll a b x (wordsIn w cs)
   pub weights : (k : ℕ) → wordOf v k ds .frequency ≡ wordOf w k cs .frequency
   pub done : (s : ℕ) → i ≤ s → s < j → holds a b v (nth (state p cs (key a b) .words) s) ds ≡ 0
   pub still : (k : ℕ) → holds a b w k cs ≡ 0 → holds a b v k ds ≡ 0

@@ -146,7 +146,7 @@ fn merge_some(
     requires { ⌜ (i + some ≤ length (state p (cells (now room)) (states.key a b) .words)) × (some ≤ 16) ⌝ }
     ensures { λ j. ⌜ Visiting a b x w p r i (i + some) (j .touched) (j .words) (cells (now (room .entry))) (cells (now (room .exit))) ⌝ }
 {
-    let key = reports::key(a, b);
+    let key = states::key(a, b);
     let fs = frequencies(room, w, p, key, r, i, some);
     let mut v = w;
     let mut m = n;
@@ -178,7 +178,7 @@ pub fn merge_words(
     requires { ⌜ (Midway a b x w p n (cells (now room))) × (Has p (states.key a b) r (cells (now room))) ⌝ }
     ensures { λ j. ⌜ JoinedAll a b x w p (cells (now (room .entry))) (cells (now (room .exit))) j ⌝ }
 {
-    let key = reports::key(a, b);
+    let key = states::key(a, b);
     let many = lists::words_len(room, p, key, r) as usize;
     let mut v = w;
     let mut m = n;

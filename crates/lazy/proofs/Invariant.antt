@@ -20,7 +20,8 @@ use Rattle.lazy.specs.Lazy.{insert, total, entries, Pair, live, allSpots
 use Rattle.lazy.specs.Invariant.{First, Every, Sorted, Fair, Inv}
 use Rattle.lazy.proofs.Order.{first-refl, first-lower, first-ahead}
 use Rattle.lazy.proofs.Old.{length-with, sound-with, within-with, old-with, gone-with}
-use Rattle.lazy.proofs.Spots.{In, counted-in, spots-below, in-holding, holding-in, either-false}
+use Rattle.lazy.proofs.Spots.{In, counted-in, spots-below, in-holding, holding-in}
+use Rattle.rule.proofs.Places.{either-false}
 use Rattle.lazy.proofs.Queue.{every-map, every-two, every-insert, sorted-insert, find, entries-cons, entries-insert, isOf-live, enterAll-keeps, enterAll-stay, enterAll-has}
 
 fair-live : (ps : List (List ℕ)) (es : List Entry) (l r : ℕ) → l < length ps → r < length ps → Fair ps es (live es l r)

@@ -12,7 +12,6 @@ use Rattle.rule.specs.Training.{count}
 use Rattle.rule.specs.Sums.{Under, AllUnder}
 use Rattle.rule.proofs.Rewriting.{pair-true}
 use Rattle.lazy.specs.Lazy.{Pair, pair, spots, allSpots, holding}
-use Rattle.lazy.proofs.Order.{differ}
 
 -- membership
 pub data In (c : Pair) : List Pair → Type 0 where
@@ -82,7 +81,3 @@ holding-in x p q e (there {d = d} {cs = cs} h) = go (eqb (d .left) x || eqb (d .
     go : (b : Bool) → In (pair p q) (holding x cs) → In (pair p q) (cond b (d ∷ holding x cs) (holding x cs))
     go true k = there k
     go false k = k
-
-pub either-false : (a b : Bool) → (a || b) ≡ false → (a ≡ false) × (b ≡ false)
-either-false true b e = differ true refl e
-either-false false b e = (refl, e)

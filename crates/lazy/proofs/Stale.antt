@@ -1,5 +1,5 @@
 -- What a merge makes stale: at most two entries for each rewrite, since a report lowers one pair and each pair has one entry.
-use mathlib.Core.Path.{_≡_, refl, sym, ap, _∙_}
+use mathlib.Core.Path.{_≡_, refl, ap}
 use mathlib.Core.Bool.{Bool, true, false, cond}
 use mathlib.Core.List.{List, [], _∷_, _++_}
 use mathlib.Core.Logic.{_≢_}
@@ -8,13 +8,13 @@ use Prim.Native.Nat.{ℕ, zero, suc, _+_, _*_, _≤_}
 use native.Mathlib.Omega.{arith}
 use lib.Dec.{eqb}
 use lib.ListN.{length}
-use borrow.Author.Tests.{eq-eqb, ne-eqb}
+use borrow.Author.Tests.{eq-eqb}
 use Rattle.rule.specs.Table.{Task}
 use Rattle.rule.specs.Seeding.{Entry}
 use Rattle.rule.specs.Rewriting.{bit, isPair, Span, one, hit, cut, src, hits, Report, before, after, reportsFrom, rewrite, rewrites, reports, countIn}
 use Rattle.rule.specs.Training.{count, rewriteAll, Choice}
 use Rattle.rule.specs.Sums.{lowered}
-use Rattle.runs.proofs.Parts.{same-or-not}
+use Rattle.runs.proofs.Parts.{eqb-sym}
 use Rattle.rfc3629.proofs.Rows.{cond-elim}
 use Rattle.rule.proofs.Rewriting.{never-rises}
 use Rattle.rule.proofs.Reports.{lowered-append, balance}
@@ -43,9 +43,6 @@ total-le : (g h : Choice → ℕ) (qu : List Choice) → Every (λ f. g f ≤ h 
 unfolding total
 total-le g h [] k = omega arith
 total-le g h (e ∷ qu) k = let m = total-le g h qu (k .1) in let z = k .0 in omega arith
-
-eqb-sym : (a b : ℕ) → eqb a b ≡ eqb b a
-eqb-sym a b = same-or-not a b (λ e. eq-eqb a b e ∙ sym (eq-eqb b a (sym e))) (λ n. ne-eqb a b n ∙ sym (ne-eqb b a (λ e. n (sym e))))
 
 pub isPair-sym : (p q s t : ℕ) → isPair p q s t ≡ isPair s t p q
 isPair-sym p q s t = rw (eqb-sym s p, eqb-sym t q)

@@ -13,6 +13,7 @@ use Rattle.lines.specs.Lines.{lines, tooLong, firstBad}
 use Rattle.lines.specs.Table.{wordBytes, endBytes, frequencyBytes, noRoom, parsed, leaves, Read, Filled}
 use Rattle.lines.specs.Places.{Going}
 use Rattle.lines.proofs.Writing.{going-first}
+use Rattle.rule.proofs.Places.{either-false}
 
 -- ROOM
 
@@ -29,15 +30,11 @@ module _ (words ends frequencies : ℕ) where
   unfolding noRoom
   room-frequencies h k = rw (le-ltb words 1024 h, le-ltb ends 256 k)
 
-or-neither : (a b : Bool) → (a || b) ≡ false → (a ≡ false) × (b ≡ false)
-or-neither true b e = let z : _≡_ {A = ℕ} 0 1 = cc in absurd (omega arith)
-or-neither false b e = (refl, e)
-
 pub has-room : (words ends frequencies : ℕ) → noRoom words ends frequencies ≡ false → (1024 ≤ words) × (256 ≤ ends) × (512 ≤ frequencies)
 unfolding noRoom
 has-room words ends frequencies e =
-    let a = or-neither (ltb words 1024) (ltb ends 256 || ltb frequencies 512) e in
-    let b = or-neither (ltb ends 256) (ltb frequencies 512) (a .1) in
+    let a = either-false (ltb words 1024) (ltb ends 256 || ltb frequencies 512) e in
+    let b = either-false (ltb ends 256) (ltb frequencies 512) (a .1) in
     (ltb-false words 1024 (a .0), ltb-false ends 256 (b .0), ltb-false frequencies 512 (b .1))
 
 -- LENGTH
@@ -53,7 +50,7 @@ long-lines text n h e = rw (le-ltb 1024 (length text) h, e)
 pub not-long : (text : List ℕ) → tooLong text ≡ false → (length text ≤ 1024) × (length (lines text) ≤ 64)
 unfolding tooLong
 not-long text e =
-    let a = or-neither (ltb 1024 (length text)) (ltb 64 (length (lines text))) e in
+    let a = either-false (ltb 1024 (length text)) (ltb 64 (length (lines text))) e in
     (ltb-false 1024 (length text) (a .0), ltb-false 64 (length (lines text)) (a .1))
 
 -- THE ANSWERS

@@ -9,7 +9,7 @@ use lib.Dec.{eqb}
 use lib.ListN.{length}
 use Rattle.runs.specs.Parts.{nth, part}
 use Rattle.runs.proofs.Parts.{below-or-not, same-or-not, nth-ext, nth-part, length-part}
-use Rattle.records.specs.Records.{field, Live, Within}
+use Rattle.records.specs.Records.{field}
 use Rattle.records.proofs.Laws.{field-of, field-low}
 use Rattle.states.specs.State.{State, lastIs}
 use Rattle.pairs.specs.View.{arenaAt, dataAt, keyIn, many, place, wordsOf, recordState, state}
@@ -34,10 +34,6 @@ pub near-cell : (p : Pairs) (r : ℕ) (cs : List ℕ) → 0 < keyIn p cs r → (
 near-cell p r cs l j =
     let e : arenaAt p + 3 + r * 8 + 4 + j ≡ arenaAt p + 3 + r * 8 + (4 + j) = omega arith in
     rw e (sym (field-of (arenaAt p) cs r (4 + j) (field-low (arenaAt p) cs r 0 l)))
-
-pub live-within : (base n r f : ℕ) (cs : List ℕ) → Live base n r cs → f < 8 → Within base n r f cs
-live-within base n r f cs l h =
-    record { room = l .ar .room; small = l .ar .small; low = field-low base cs r 0 (l .live); most = l .ar .low; few = h }
 
 -- A RECORD THAT IS HAD
 module _ (p : Pairs) (k r : ℕ) (cs : List ℕ) (h : Has p k r cs) where

@@ -8,7 +8,7 @@ use Rattle.rule.specs.Rewriting.{rewrite}
 use Rattle.rule.specs.Seeding.{Entry}
 use Rattle.rule.specs.Sums.{symbolsIn}
 use Rattle.rule.proofs.Rewriting.{length-rewrite}
-use Rattle.word.specs.Layout.{corpus}
+use Rattle.word.specs.Layout.{wordsIn}
 use Rattle.word.specs.declared.WordSet.{WordSet}
 use Rattle.merge.specs.Merging.{changeAt, MergedWord}
 use Rattle.merge.specs.declared.Merged.{Merged}
@@ -22,5 +22,5 @@ change-weight a b x zero (e ∷ es) =
 change-weight a b x (suc k) (e ∷ es) = let i = change-weight a b x k es in omega arith
 
 module _ (a b x : ℕ) (w : WordSet) (k : ℕ) (cs ds : List ℕ) (r : Merged) (m : MergedWord a b x w k cs ds r) where
-  pub merge-weight : symbolsIn (corpus ds (r .words .starts) (r .words .count)) ≤ symbolsIn (corpus cs (w .starts) (w .count))
-  merge-weight = rw (m .view) (change-weight a b x k (corpus cs (w .starts) (w .count)))
+  pub merge-weight : symbolsIn (wordsIn (r .words) ds) ≤ symbolsIn (wordsIn w cs)
+  merge-weight = rw (m .view) (change-weight a b x k (wordsIn w cs))

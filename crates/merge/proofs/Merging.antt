@@ -12,7 +12,7 @@ use Rattle.rule.specs.Rewriting.{rewrite, rewrites}
 use Rattle.rule.specs.Sums.{inUse}
 use Rattle.rule.specs.Training.{rewriteAll}
 use Rattle.rule.proofs.Rewriting.{length-rewrite}
-use Rattle.word.specs.Layout.{symbolIn, symbolsAt, endAt, line, lines, corpus, entryAt, Words, Numbers, Placed}
+use Rattle.word.specs.Layout.{symbolIn, symbolsAt, endAt, line, lines, corpus, entryAt, Words, Numbers, Placed, wordsIn}
 use Rattle.word.specs.declared.WordSet.{WordSet}
 use Rattle.word.proofs.Views.{symbols-length, corpus-length, line-same}
 use Rattle.word.proofs.Sets.{word-symbols, inLine-shorter}
@@ -27,10 +27,10 @@ module _ (a b x : ℕ) (w : WordSet) (k s n m : ℕ) (cs ds : List ℕ) (σ : Wo
   room : s + 2 + n ≤ length cs
   room = omega (arith, p .high, σ .room)
 
-  symbols-are : entryAt (corpus cs (w .starts) (w .count)) k .symbols ≡ symbolsAt (s + 2) n cs
+  symbols-are : entryAt (wordsIn w cs) k .symbols ≡ symbolsAt (s + 2) n cs
   symbols-are = word-symbols w cs σ k h ∙ rw (← p .place, ← en)
 
-  rewrites-are : n - m ≡ rewrites a b (entryAt (corpus cs (w .starts) (w .count)) k .symbols)
+  rewrites-are : n - m ≡ rewrites a b (entryAt (wordsIn w cs) k .symbols)
   unfolding symbolsAt
   rewrites-are =
       rw symbols-are
@@ -45,9 +45,9 @@ module _ (a b x : ℕ) (w : WordSet) (k s n m : ℕ) (cs ds : List ℕ) (σ : Wo
       ))
 
   -- the word loses symbols that were in use
-  in-use : inUse (changeAt (rewrite a b x) k (corpus cs (w .starts) (w .count))) + (n - m) ≡ w .live
+  in-use : inUse (changeAt (rewrite a b x) k (wordsIn w cs)) + (n - m) ≡ w .live
   in-use =
-      rw (rewrites-are, σ .used) (inUse-rewrite a b x k (corpus cs (w .starts) (w .count)) (omega (arith, corpus-length cs (w .starts) (w .count))))
+      rw (rewrites-are, σ .used) (inUse-rewrite a b x k (wordsIn w cs) (omega (arith, corpus-length cs (w .starts) (w .count))))
 
   pub rewrites-live : n - m ≤ w .live
   rewrites-live = omega (arith, in-use)
@@ -73,7 +73,7 @@ module _ (a b x : ℕ) (w : WordSet) (k s n m : ℕ) (cs ds : List ℕ) (σ : Wo
   lines-are : lines ds (w .starts) (w .count) ≡ changeAt (rewriteCells a b x) k (lines cs (w .starts) (w .count))
   lines-are = lines-changed (rewriteCells a b x) cs ds (w .starts) (w .count) k h this-line other-line
 
-  view : corpus ds (w .starts) (w .count) ≡ changeAt (rewrite a b x) k (corpus cs (w .starts) (w .count))
+  view : wordsIn w ds ≡ changeAt (rewrite a b x) k (wordsIn w cs)
   unfolding corpus
   view = rw lines-are (change-symbols (rewrite a b x) (rewriteCells a b x) (rewrite-cells a b x small) k (lines cs (w .starts) (w .count)))
 
@@ -123,7 +123,7 @@ pub merging-start : (a b x : ℕ) (w : WordSet) (cs : List ℕ) → Words w cs �
 merging-start a b x w cs σ = record {
   numbers = record { starts-is = refl; count-is = refl; low-is = refl; top-is = refl; live-is = refl };
   set = σ;
-  view = sym (first-none a b x (corpus cs (w .starts) (w .count)));
+  view = sym (first-none a b x (wordsIn w cs));
   kept = kept-none (w .low) (w .top) cs;
 }
 
@@ -140,11 +140,11 @@ module _ (a b x : ℕ) (w : WordSet) (k : ℕ) (cs ds : List ℕ) (v : WordSet) 
         live-is = refl;
       }
 
-      view : corpus es (r .words .starts) (r .words .count) ≡ rewriteFirst a b x (k + 1) (corpus cs (w .starts) (w .count))
+      view : wordsIn (r .words) es ≡ rewriteFirst a b x (k + 1) (wordsIn w cs)
       view =
           m .view
           ∙ ap (changeAt (rewrite a b x) k) (σ .view)
-          ∙ first-more a b x k (corpus cs (w .starts) (w .count)) (omega (arith, corpus-length cs (w .starts) (w .count)))
+          ∙ first-more a b x k (wordsIn w cs) (omega (arith, corpus-length cs (w .starts) (w .count)))
 
       within : Kept (v .low) (v .top) ds es
       within = merged-within a b x v k ds es r (σ .set) (omega (arith, σ .numbers .count-is)) m
@@ -166,5 +166,5 @@ module _ (a b x : ℕ) (w : WordSet) (k : ℕ) (cs ds : List ℕ) (v : WordSet) 
     kept = σ .kept;
   }
     where
-      view : corpus ds (v .starts) (v .count) ≡ rewriteAll a b x (corpus cs (w .starts) (w .count))
-      view = σ .view ∙ first-all a b x k (corpus cs (w .starts) (w .count)) (omega (arith, corpus-length cs (w .starts) (w .count)))
+      view : wordsIn v ds ≡ rewriteAll a b x (wordsIn w cs)
+      view = σ .view ∙ first-all a b x k (wordsIn w cs) (omega (arith, corpus-length cs (w .starts) (w .count)))

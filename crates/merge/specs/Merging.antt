@@ -7,7 +7,7 @@ use Rattle.rule.specs.Rewriting.{rewrite, rewrites}
 use Rattle.rule.specs.Seeding.{Entry}
 use Rattle.rule.specs.Sums.{inUse}
 use Rattle.rule.specs.Training.{rewriteAll}
-use Rattle.word.specs.Layout.{endAt, lines, corpus, entryAt, Words, Numbers}
+use Rattle.word.specs.Layout.{endAt, lines, entryAt, Words, Numbers, wordsIn}
 use Rattle.word.specs.declared.WordSet.{WordSet}
 use Rattle.merge.specs.Cells.{rewriteCells}
 use Rattle.merge.specs.declared.Merged.{Merged}
@@ -26,23 +26,23 @@ rewriteFirst a b x (suc k) (e ∷ es) = record { frequency = e .frequency; symbo
 
 -- word k is rewritten in place: its length and its symbols change, and no other cell
 pub record MergedWord (a b x : ℕ) (w : WordSet) (k : ℕ) (cs ds : List ℕ) (r : Merged) : Type 0 where
-  pub rewritten : r .rewrites ≡ rewrites a b (entryAt (corpus cs (w .starts) (w .count)) k .symbols)
+  pub rewritten : r .rewrites ≡ rewrites a b (entryAt (wordsIn w cs) k .symbols)
   pub numbers : Numbers (r .words) (w .starts) (w .count) (w .low) (w .top) (w .live - r .rewrites)
   pub set : Words (r .words) ds
-  pub view : corpus ds (r .words .starts) (r .words .count) ≡ changeAt (rewrite a b x) k (corpus cs (w .starts) (w .count))
+  pub view : wordsIn (r .words) ds ≡ changeAt (rewrite a b x) k (wordsIn w cs)
   pub cells-are : lines ds (r .words .starts) (r .words .count) ≡ changeAt (rewriteCells a b x) k (lines cs (w .starts) (w .count))
   pub kept : Kept (nth cs (w .starts + k) + 1) (endAt ds (nth cs (w .starts + k))) cs ds
 
 -- every word is rewritten
 pub record MergedAll (a b x : ℕ) (w : WordSet) (cs ds : List ℕ) (r : WordSet) : Type 0 where
-  pub numbers : Numbers r (w .starts) (w .count) (w .low) (w .top) (inUse (rewriteAll a b x (corpus cs (w .starts) (w .count))))
+  pub numbers : Numbers r (w .starts) (w .count) (w .low) (w .top) (inUse (rewriteAll a b x (wordsIn w cs)))
   pub set : Words r ds
-  pub view : corpus ds (r .starts) (r .count) ≡ rewriteAll a b x (corpus cs (w .starts) (w .count))
+  pub view : wordsIn r ds ≡ rewriteAll a b x (wordsIn w cs)
   pub kept : Kept (w .low) (w .top) cs ds
 
 -- while they are: the first k words are rewritten
 pub record Merging (a b x : ℕ) (w : WordSet) (k : ℕ) (cs ds : List ℕ) (v : WordSet) : Type 0 where
   pub numbers : Numbers v (w .starts) (w .count) (w .low) (w .top) (v .live)
   pub set : Words v ds
-  pub view : corpus ds (v .starts) (v .count) ≡ rewriteFirst a b x k (corpus cs (w .starts) (w .count))
+  pub view : wordsIn v ds ≡ rewriteFirst a b x k (wordsIn w cs)
   pub kept : Kept (w .low) (w .top) cs ds

@@ -25,10 +25,10 @@ fn joined_bytes(
     requires { ⌜ (Held count used (now pieces) (now ends)) × (left < count) × (right < count) ⌝ }
     ensures { λ r. ⌜ r ≡ length (joined (now (prefix .entry)) (pieceAt (now (pieces .entry)) (now (ends .entry)) left) (pieceAt (now (pieces .entry)) (now (ends .entry)) right)) ⌝ }
 {
-    let left_from = intern::piece_start(ends, left as usize);
-    let left_to = intern::piece_start(ends, left as usize + 1);
-    let right_from = intern::piece_start(ends, right as usize);
-    let right_to = intern::piece_start(ends, right as usize + 1);
+    let left_from = vocab::piece_start(ends, left as usize);
+    let left_to = vocab::piece_start(ends, left as usize + 1);
+    let right_from = vocab::piece_start(ends, right as usize);
+    let right_to = vocab::piece_start(ends, right as usize + 1);
     spelling::joined_length(left_to - left_from, &pieces[right_from..right_to], prefix)
 }
 
@@ -62,10 +62,10 @@ pub fn append_piece(
     if LONGEST - used < n {
         return Appended::NoRoom;
     }
-    let left_from = intern::piece_start(ends, left as usize);
-    let left_to = intern::piece_start(ends, left as usize + 1);
-    let right_from = intern::piece_start(ends, right as usize);
-    let right_to = intern::piece_start(ends, right as usize + 1);
+    let left_from = vocab::piece_start(ends, left as usize);
+    let left_to = vocab::piece_start(ends, left as usize + 1);
+    let right_from = vocab::piece_start(ends, right as usize);
+    let right_to = vocab::piece_start(ends, right as usize + 1);
     let end = spelling::join(
         pieces,
         used,

@@ -13,7 +13,7 @@ use Rattle.runs.proofs.Parts.{below-or-not, length-put, nth-put, nth-put-other,
 use Rattle.runs.proofs.Frames.{kept-put, kept-part}
 use Rattle.rule.specs.Seeding.{keep}
 use Rattle.rule.specs.Sums.{inUse}
-use Rattle.word.specs.Layout.{symbolIn, symbolsAt, endAt, line, bySymbols, corpus, SameIn, InLine, Words}
+use Rattle.word.specs.Layout.{symbolIn, symbolsAt, endAt, line, bySymbols, corpus, SameIn, InLine, Words, wordsIn}
 use Rattle.pushing.specs.Pushing.{longer, pushed, pushedCells, Takes, Opened, Added, Pushed}
 use Rattle.word.specs.declared.WordSet.{WordSet}
 use Rattle.word.proofs.Views.{symbol-alone, symbols-length, symbols-more, symbols-same, corpus-more, inUse-append}
@@ -95,7 +95,7 @@ dropped w n cs σ h r = record {
   set = σ;
   view =
       rw (keep-few (nth cs (w .top)) (symbolsAt (w .top + 2) n cs) (omega (arith, symbols-length (w .top + 2) n cs r)))
-      (sym (append-nil (corpus cs (w .starts) (w .count))));
+      (sym (append-nil (wordsIn w cs)));
   long = refl;
   same = λ j a b. refl;
 }
@@ -142,7 +142,7 @@ module _ (w : WordSet) (n : ℕ) (cs ds es : List ℕ) (σ : Words w cs) (more :
       rest : part (w .top + 2) n es ≡ part (w .top + 2) n cs
       rest = part-ext (w .top + 2) n es cs (omega (arith, long)) long (λ j h. same (w .top + 2 + j) (omega (arith, σ .inLine .span)) (omega arith))
 
-  view : corpus es (w .starts) (w .count + 1) ≡ corpus cs (w .starts) (w .count) ++ keep (nth cs (w .top)) (symbolsAt (w .top + 2) n cs) []
+  view : corpus es (w .starts) (w .count + 1) ≡ wordsIn w cs ++ keep (nth cs (w .top)) (symbolsAt (w .top + 2) n cs) []
   view =
       corpus-more es (w .starts) (w .count)
       ∙ rw (corpus-as-it-was w cs es σ long places inside, entry-is, keep-word (nth cs (w .top)) (symbolsAt (w .top + 2) n cs) (omega (arith, symbols-length (w .top + 2) n cs r)))

@@ -7,7 +7,7 @@ use lib.Dec.{ltb}
 use lib.ListN.{length}
 use Rattle.runs.specs.Parts.{nth, put, Kept}
 use Rattle.rule.specs.Seeding.{keep}
-use Rattle.word.specs.Layout.{symbolsAt, corpus, Words}
+use Rattle.word.specs.Layout.{symbolsAt, Words, wordsIn}
 use Rattle.word.specs.declared.WordSet.{WordSet}
 
 -- a set with a word of n symbols more
@@ -35,7 +35,7 @@ pushedCells w n cs = cond (ltb n 2) cs (put (put cs (w .top + 1) n) (w .starts +
 pub record Opened (w : WordSet) (f : ℕ) (cs ds : List ℕ) : Type 0 where
   pub is : ds ≡ put cs (w .top) f
   pub set : Words w ds
-  pub view : corpus ds (w .starts) (w .count) ≡ corpus cs (w .starts) (w .count)
+  pub view : wordsIn w ds ≡ wordsIn w cs
   pub frequency : nth ds (w .top) ≡ f
   pub kept : Kept (w .top) (w .top + 1) cs ds
 
@@ -43,7 +43,7 @@ pub record Opened (w : WordSet) (f : ℕ) (cs ds : List ℕ) : Type 0 where
 pub record Added (w : WordSet) (n s : ℕ) (cs ds : List ℕ) : Type 0 where
   pub is : ds ≡ put cs (w .top + 2 + n) s
   pub set : Words w ds
-  pub view : corpus ds (w .starts) (w .count) ≡ corpus cs (w .starts) (w .count)
+  pub view : wordsIn w ds ≡ wordsIn w cs
   pub frequency : nth ds (w .top) ≡ nth cs (w .top)
   pub symbols : symbolsAt (w .top + 2) (n + 1) ds ≡ symbolsAt (w .top + 2) n cs ++ (s ∷ [])
   pub kept : Kept (w .top + 2 + n) (w .top + 2 + n + 1) cs ds
@@ -54,6 +54,6 @@ pub record Pushed (w : WordSet) (n : ℕ) (cs ds : List ℕ) (r : WordSet) : Typ
   pub numbers : r ≡ pushed w n
   pub takes : Takes w n r
   pub set : Words r ds
-  pub view : corpus ds (r .starts) (r .count) ≡ corpus cs (w .starts) (w .count) ++ keep (nth cs (w .top)) (symbolsAt (w .top + 2) n cs) []
+  pub view : wordsIn r ds ≡ wordsIn w cs ++ keep (nth cs (w .top)) (symbolsAt (w .top + 2) n cs) []
   pub long : length ds ≡ length cs
   pub same : (j : ℕ) → (j ≡ w .starts + w .count → ⊥) → (j ≡ w .top + 1 → ⊥) → nth ds j ≡ nth cs j

@@ -8,7 +8,7 @@ use lib.ListN.{length}
 use Rattle.runs.specs.Parts.{nth, put}
 use Rattle.runs.proofs.Parts.{below-or-not, length-put, nth-put, nth-put-other}
 use Rattle.runs.proofs.Frames.{kept-put}
-use Rattle.records.specs.Records.{field, taken, free, Chain, Arena, Live, CanPut, FieldPut}
+use Rattle.records.specs.Records.{field, taken, free, Chain, Arena, Live, CanPut, FieldPut, Within}
 
 -- THE HEAD
 
@@ -152,3 +152,7 @@ module _ (base n r f v : ℕ) (cs ds : List ℕ) (p : CanPut base n r f cs) (d :
         head = fp-head;
         is-put = d;
       }
+
+pub live-within : (base n r f : ℕ) (cs : List ℕ) → Live base n r cs → f < 8 → Within base n r f cs
+live-within base n r f cs l h =
+    record { room = l .ar .room; small = l .ar .small; low = field-low base cs r 0 (l .live); most = l .ar .low; few = h }

@@ -5,12 +5,12 @@ use Prim.Native.Nat.{ℕ, _≤_, _<_}
 use native.Mathlib.Omega.{arith}
 use Rattle.rule.specs.Seeding.{Entry}
 use Rattle.rule.specs.Sums.{AllUnder, symbolsIn}
-use Rattle.rule.specs.Training.{count, choose}
+use Rattle.rule.specs.Training.{count, choose, limits}
 use Rattle.rule.specs.Training as rule
 use Rattle.rule.proofs.Choosing.{choose-times}
 use Rattle.rule.proofs.Counts.{count-symbols, counted-below}
 use Rattle.runs.proofs.Parts.{below-or-not}
-use Rattle.recount.specs.Recount.{limits, ruled, Chosen}
+use Rattle.recount.specs.Recount.{ruled, Chosen}
 use Rattle.recount.specs.declared.Choice.{Choice}
 
 module _ (p : List ℕ) (limit : ℕ) (ps : List (List ℕ)) (es : List Entry) where

@@ -9,12 +9,11 @@ use Rattle.runs.proofs.Parts.{length-part, part-lent, part-short}
 use Rattle.rule.specs.Table.{Task}
 use Rattle.rule.specs.Seeding.{Entry}
 use Rattle.rule.specs.Layout.{pieceStart, pieceAt}
-use Rattle.rule.specs.Training.{joinedOf, within, candidatesIn, candidates, choose}
+use Rattle.rule.specs.Training.{joinedOf, within, candidatesIn, candidates, choose, limits}
 use Rattle.spelling.specs.Lengths.{joinedLength}
 use Rattle.spelling.proofs.Lengths.{joined-measure}
 use Rattle.intern.specs.Pieces.{pieces, Held}
 use Rattle.intern.proofs.Rooms.{piece-part, piece-lent, piece-inside, pieces-at}
-use Rattle.recount.specs.Recount.{limits}
 
 -- TWO PIECES, by the four ends
 module _ (n u : ℕ) (xs ys : List ℕ) (held : Held n u xs ys) (s t : ℕ) (hs : s < n) (ht : t < n) (start end from to : ℕ)

@@ -10,13 +10,13 @@ use Rattle.runs.specs.Parts.{nth}
 use Rattle.rule.specs.Table.{Task}
 use Rattle.rule.specs.Seeding.{Entry}
 use Rattle.rule.specs.Sums.{Under, AllUnder}
-use Rattle.rule.specs.Training.{count, within, better, best, candidatesIn, candidates, choose}
+use Rattle.rule.specs.Training.{count, within, better, best, candidatesIn, candidates, choose, limits}
 use Rattle.rule.specs.Training as rule
-use Rattle.word.specs.Layout.{symbolIn, symbolsAt, corpus, entryAt, Found}
+use Rattle.word.specs.Layout.{symbolIn, symbolsAt, entryAt, Found, wordsIn}
 use Rattle.word.specs.declared.WordSet.{WordSet}
 use Rattle.word.specs.declared.Span.{Span}
 use Rattle.word.proofs.Views.{symbols-length, symbols-two, symbols-next, corpus-length, drop-entry, under-at}
-use Rattle.recount.specs.Recount.{limits, ruled, pick, known, Weighed, Tried, Chosen}
+use Rattle.recount.specs.Recount.{ruled, pick, known, Weighed, Tried, Chosen}
 use Rattle.recount.specs.declared.Choice.{Choice}
 use Rattle.recount.proofs.Picking.{pick-best, Same, known-same}
 use Rattle.recount.proofs.Limits.{choose-limits}
@@ -128,13 +128,13 @@ module _ (m at n : ℕ) (cs : List ℕ) (b : Under m (symbolsAt at n cs)) (h : 1
 
 -- the loop
 module _ (w : WordSet) (k : ℕ) (cs : List ℕ) (r : Span) (f : Found w k cs r) where
-  pub under-start : (m : ℕ) → AllUnder m (corpus cs (w .starts) (w .count)) → k < w .count → Under m (symbolsAt (r .start) (r .length) cs)
+  pub under-start : (m : ℕ) → AllUnder m (wordsIn w cs) → k < w .count → Under m (symbolsAt (r .start) (r .length) cs)
   under-start m b h =
-      rw (f .symbols) (under-at m (corpus cs (w .starts) (w .count)) k b (omega (arith, corpus-length cs (w .starts) (w .count))))
+      rw (f .symbols) (under-at m (wordsIn w cs) k b (omega (arith, corpus-length cs (w .starts) (w .count))))
 
   pub scan-start : (t : Task) (ps : List (List ℕ)) (c : rule.Choice)
-      → best c (candidatesIn t ps (corpus cs (w .starts) (w .count)) (entryAt (corpus cs (w .starts) (w .count)) k .symbols))
-      ≡ best c (candidatesIn t ps (corpus cs (w .starts) (w .count)) (symbolsAt (r .start) (r .length) cs))
+      → best c (candidatesIn t ps (wordsIn w cs) (entryAt (wordsIn w cs) k .symbols))
+      ≡ best c (candidatesIn t ps (wordsIn w cs) (symbolsAt (r .start) (r .length) cs))
   scan-start t ps c = rw (f .symbols)
 
 module _ (p : List ℕ) (limit : ℕ) (ps : List (List ℕ)) (es : List Entry) (l : List ℕ) (c d : Choice) (at n : ℕ) (cs : List ℕ)
@@ -162,28 +162,28 @@ nothing-weighed es = record { counted = λ h. absurd (omega arith) }
 
 -- the loop
 module _ (p : List ℕ) (limit : ℕ) (ps : List (List ℕ)) (w : WordSet) (cs : List ℕ) where
-  pub choose-start : choose (limits p limit) ps (corpus cs (w .starts) (w .count))
-      ≡ best (ruled (record { left = 0; right = 0; times = 0 })) (candidates (limits p limit) ps (corpus cs (w .starts) (w .count)) (drop 0 (corpus cs (w .starts) (w .count))))
+  pub choose-start : choose (limits p limit) ps (wordsIn w cs)
+      ≡ best (ruled (record { left = 0; right = 0; times = 0 })) (candidates (limits p limit) ps (wordsIn w cs) (drop 0 (wordsIn w cs)))
   unfolding choose ruled
   choose-start = refl
 
   module _ (k : ℕ) (d : Choice)
-      (inv : choose (limits p limit) ps (corpus cs (w .starts) (w .count))
-      ≡ best (ruled d) (candidates (limits p limit) ps (corpus cs (w .starts) (w .count)) (drop k (corpus cs (w .starts) (w .count))))) where
+      (inv : choose (limits p limit) ps (wordsIn w cs)
+      ≡ best (ruled d) (candidates (limits p limit) ps (wordsIn w cs) (drop k (wordsIn w cs)))) where
     pub choose-turn : k < w .count → (r : Choice)
-        → Tried p limit ps (corpus cs (w .starts) (w .count)) (entryAt (corpus cs (w .starts) (w .count)) k .symbols) d r
-        → choose (limits p limit) ps (corpus cs (w .starts) (w .count))
-        ≡ best (ruled r) (candidates (limits p limit) ps (corpus cs (w .starts) (w .count)) (drop (k + 1) (corpus cs (w .starts) (w .count))))
+        → Tried p limit ps (wordsIn w cs) (entryAt (wordsIn w cs) k .symbols) d r
+        → choose (limits p limit) ps (wordsIn w cs)
+        ≡ best (ruled r) (candidates (limits p limit) ps (wordsIn w cs) (drop (k + 1) (wordsIn w cs)))
     unfolding candidates
     choose-turn h r tr =
         inv
-        ∙ rw (drop-entry (corpus cs (w .starts) (w .count)) k (omega (arith, corpus-length cs (w .starts) (w .count))), tr .is)
-        (best-append (ruled d) (candidatesIn (limits p limit) ps (corpus cs (w .starts) (w .count)) (entryAt (corpus cs (w .starts) (w .count)) k .symbols))
-        (candidates (limits p limit) ps (corpus cs (w .starts) (w .count)) (drop (k + 1) (corpus cs (w .starts) (w .count)))))
+        ∙ rw (drop-entry (wordsIn w cs) k (omega (arith, corpus-length cs (w .starts) (w .count))), tr .is)
+        (best-append (ruled d) (candidatesIn (limits p limit) ps (wordsIn w cs) (entryAt (wordsIn w cs) k .symbols))
+        (candidates (limits p limit) ps (wordsIn w cs) (drop (k + 1) (wordsIn w cs))))
 
-    pub choose-end : w .count ≤ k → Chosen p limit ps (corpus cs (w .starts) (w .count)) d
+    pub choose-end : w .count ≤ k → Chosen p limit ps (wordsIn w cs) d
     unfolding candidates best
     choose-end h =
-        let l : length (corpus cs (w .starts) (w .count)) ≤ k = omega (arith, corpus-length cs (w .starts) (w .count)) in
-        let e : choose (limits p limit) ps (corpus cs (w .starts) (w .count)) ≡ ruled d = rw (drop-of-length-le (corpus cs (w .starts) (w .count)) l) at inv in
-        record { is = λ t ep el. choose-limits t p limit ep el ps (corpus cs (w .starts) (w .count)) ∙ e }
+        let l : length (wordsIn w cs) ≤ k = omega (arith, corpus-length cs (w .starts) (w .count)) in
+        let e : choose (limits p limit) ps (wordsIn w cs) ≡ ruled d = rw (drop-of-length-le (wordsIn w cs) l) at inv in
+        record { is = λ t ep el. choose-limits t p limit ep el ps (wordsIn w cs) ∙ e }

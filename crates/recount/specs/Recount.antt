@@ -1,34 +1,18 @@
 -- What a recount asks of the rooms, and what it tells: the choice of the rule.
 use mathlib.Core.Path.{_≡_}
 use mathlib.Core.Bool.{Bool, cond, _&&_}
-use mathlib.Core.List.{List, []}
+use mathlib.Core.List.{List}
 use Prim.Native.Nat.{ℕ, _^_, _<_}
 use lib.Dec.{eqb, ltb}
 use Rattle.rule.specs.Table.{Task}
 use Rattle.rule.specs.Seeding.{Entry}
 use Rattle.rule.specs.Sums.{AllUnder, symbolsIn}
-use Rattle.rule.specs.Training.{count, better, best, candidatesIn, choose}
+use Rattle.rule.specs.Training.{count, better, best, candidatesIn, choose, limits}
 use Rattle.rule.specs.Training as rule
 use Rattle.intern.specs.Pieces.{Held}
-use Rattle.word.specs.Layout.{corpus, Words}
+use Rattle.word.specs.Layout.{Words, wordsIn}
 use Rattle.word.specs.declared.WordSet.{WordSet}
 use Rattle.recount.specs.declared.Choice.{Choice}
-
--- ALL THAT A CHOICE ASKS OF A TASK is its prefix and its limit: a task with these and nothing else
-unfoldable pub limits : List ℕ → ℕ → Task
-limits prefix limit = record {
-  wordBytes = [];
-  wordEnds = [];
-  frequencyBytes = [];
-  alphabetBytes = [];
-  alphabetEnds = [];
-  prefix = prefix;
-  suffix = [];
-  seeding = 0;
-  vocabSize = 0;
-  minFrequency = 0;
-  maxPieceLength = limit;
-}
 
 -- a choice as the rule has it
 unfoldable pub ruled : Choice → rule.Choice
@@ -45,8 +29,8 @@ known c s t = ltb 0 (c .times) && (eqb (c .left) s && eqb (c .right) t)
 -- WHAT A RECOUNT ASKS: a word set whose counts stay below 2^53, and a piece for each of its symbols
 pub record Ready (w : WordSet) (pieceCount used : ℕ) (cs xs ys : List ℕ) : Type 0 where
   pub words : Words w cs
-  pub light : symbolsIn (corpus cs (w .starts) (w .count)) < 2 ^ 53
-  pub below : AllUnder pieceCount (corpus cs (w .starts) (w .count))
+  pub light : symbolsIn (wordsIn w cs) < 2 ^ 53
+  pub below : AllUnder pieceCount (wordsIn w cs)
   pub held : Held pieceCount used xs ys
 
 -- a choice that has a count has its pair's

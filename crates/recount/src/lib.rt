@@ -5,11 +5,11 @@ ghost use mathlib.Core.Path.{_≡_};
 ghost use mathlib.Core.List.{[], _∷_};
 ghost use Prim.Native.Nat.{_<_};
 ghost use Rattle.cells.specs.Cells.{cells};
-ghost use Rattle.rule.specs.Training.{within};
+ghost use Rattle.rule.specs.Training.{within, limits};
 ghost use Rattle.intern.specs.Pieces.{Held};
 ghost use Rattle.intern.specs.Pieces as rooms;
-ghost use Rattle.word.specs.Layout.{corpus, entryAt};
-ghost use Rattle.recount.specs.Recount.{limits, pick, known, Ready, Weighed, Tried, Chosen};
+ghost use Rattle.word.specs.Layout.{corpus, entryAt, wordsIn};
+ghost use Rattle.recount.specs.Recount.{pick, known, Ready, Weighed, Tried, Chosen};
 
 // A pair and its count. A count of 0 stands for no pair.
 pub struct Choice {
@@ -69,10 +69,10 @@ pub fn is_within(
     requires { ⌜ (s < count) × (t < count) ⌝ }
     ensures { λ r. ⌜ r ≡ within (limits (now (prefix .entry)) limit) (rooms.pieces (now (pieces .entry)) (now (ends .entry)) count) s t ⌝ }
 {
-    let start = intern::piece_start(ends, s as usize);
-    let end = intern::piece_start(ends, s as usize + 1);
-    let from = intern::piece_start(ends, t as usize);
-    let to = intern::piece_start(ends, t as usize + 1);
+    let start = vocab::piece_start(ends, s as usize);
+    let end = vocab::piece_start(ends, s as usize + 1);
+    let from = vocab::piece_start(ends, t as usize);
+    let to = vocab::piece_start(ends, t as usize + 1);
     let long = spelling::joined_length(end - start, &pieces[from..to], prefix);
     long as u64 <= limit
 }
@@ -94,7 +94,7 @@ fn try_pair(
 ) -> Choice
     requires { ⌜ Ready w count used (cells (now room)) (now pieces) (now ends) ⌝ }
     requires { ⌜ (s < count) × (t < count) ⌝ }
-    requires { ⌜ Weighed (corpus (cells (now room)) (w .starts) (w .count)) d ⌝ }
+    requires { ⌜ Weighed (wordsIn w (cells (now room))) d ⌝ }
     ensures { λ r. ⌜ Tried (now (prefix .entry)) limit (rooms.pieces (now (pieces .entry)) (now (ends .entry)) count)
         (corpus (cells (now (room .entry))) (w .starts) (w .count)) (s ∷ t ∷ []) d r ⌝ }
 {
@@ -130,7 +130,7 @@ fn best_word(
 ) -> Choice
     requires { ⌜ Ready w count used (cells (now room)) (now pieces) (now ends) ⌝ }
     requires { ⌜ k < w .count ⌝ }
-    requires { ⌜ Weighed (corpus (cells (now room)) (w .starts) (w .count)) c ⌝ }
+    requires { ⌜ Weighed (wordsIn w (cells (now room))) c ⌝ }
     ensures { λ r. ⌜ Tried (now (prefix .entry)) limit (rooms.pieces (now (pieces .entry)) (now (ends .entry)) count)
         (corpus (cells (now (room .entry))) (w .starts) (w .count))
         (entryAt (corpus (cells (now (room .entry))) (w .starts) (w .count)) k .symbols) c r ⌝ }

@@ -1,8 +1,8 @@
 -- A report: the steps of a raise and of a lowering, each from what those before it did, and what they come to. Assumes nothing.
-use mathlib.Core.Path.{_≡_, refl, sym, ap, _∙_}
+use mathlib.Core.Path.{_≡_, sym, ap, _∙_}
 use mathlib.Core.Bool.{true, false}
 use mathlib.Core.List.{List}
-use Prim.Native.Nat.{ℕ, _+_, _-_, _*_, _^_, _<_, _≤_}
+use Prim.Native.Nat.{ℕ, _+_, _-_, _^_, _<_, _≤_}
 use native.Mathlib.Omega.{arith}
 use Rattle.runs.specs.Parts.{Kept}
 use Rattle.runs.proofs.Parts.{same-or-not}
@@ -16,11 +16,6 @@ use Rattle.pairs.proofs.Clients.{has-tied, counted-has}
 use Rattle.notes.specs.Notes.{withNote, Noted}
 use Rattle.reports.specs.Reports.{beyond, Staying, touch, CanTouch, TouchDone, CanRaise, RaiseDone, CanLower, LowerDone}
 use Rattle.reports.proofs.Listed.{listing-marks}
-
--- a key as the code makes it
-pub key-made : (a b : ℕ) → a * 4294967296 + b + 1 ≡ key a b
-unfolding key
-key-made a b = refl
 
 -- A RAISE of the pair (a,b), whose key is k: an entry, a count, a note, a touch
 module _ {p : Pairs} {n a b f k : ℕ} {cs : List ℕ} (can : CanRaise p n a b f cs) (i : k ≡ key a b) where

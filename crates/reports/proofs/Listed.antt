@@ -1,24 +1,18 @@
 -- The list of the pairs that a merge touched: its keys one by one, and that it stays where its records and cells stay. Assumes nothing.
-use mathlib.Core.Path.{_≡_, refl, sym, ap, _∙_}
+use mathlib.Core.Path.{_≡_, sym, ap, _∙_}
 use mathlib.Core.List.{List, [], _∷_, _++_, map, map-append}
 use mathlib.Core.Logic.{inr}
-use Prim.Native.Nat.{ℕ, zero, suc, _+_, _<_, _≤_}
+use Prim.Native.Nat.{ℕ, _+_, _<_, _≤_}
 use native.Mathlib.Omega.{arith}
 use lib.ListN.{length, length-map}
 use Rattle.runs.specs.Parts.{nth, part, Kept}
-use Rattle.runs.proofs.Parts.{length-part, nth-part, part-none, part-more, nth-ext}
+use Rattle.runs.proofs.Parts.{length-part, nth-part, part-none, part-more, nth-ext, nth-map}
 use Rattle.states.specs.State.{State}
 use Rattle.states.specs.Tracking.{Touching}
 use Rattle.pairs.specs.View.{behind, recordOf, keyIn, state}
 use Rattle.pairs.specs.Pairs.{Pairing}
 use Rattle.pairs.specs.declared.Pairs.{Pairs}
 use Rattle.reports.specs.Reports.{keysOf, Listing, Staying}
-
-nth-map : (f : ℕ → ℕ) (l : List ℕ) (j : ℕ) → j < length l → nth (map f l) j ≡ f (nth l j)
-unfolding nth
-nth-map f [] j h = absurd (omega arith)
-nth-map f (x ∷ l) zero h = refl
-nth-map f (x ∷ l) (suc j) h = nth-map f l j (omega arith)
 
 -- THE KEYS OF A LIST
 pub keys-none : (p : Pairs) (cs : List ℕ) → keysOf p 0 cs ≡ []

@@ -2,22 +2,11 @@
 // pair that is touched for the first time in a merge is put on a list, so that only these are looked at when it is over.
 ghost use mathlib.Core.Path.{_≡_};
 ghost use mathlib.Core.Bool.{true, cond};
-ghost use Prim.Native.Nat.{_<_};
 ghost use Rattle.cells.specs.Cells.{cells};
 ghost use Rattle.marks.specs.Marks.{touched, gained, marking};
 ghost use Rattle.step.specs.Step.{reportsOf};
-ghost use Rattle.states.specs.State.{most};
-ghost use Rattle.states.specs.State as states;
 ghost use Rattle.reports.specs.Reports.{CanTouch, TouchDone, CanRaise, RaiseDone, CanLower, LowerDone, sideOf, CanSide, SideDone, CanReport, ReportDone};
 use pairs::Pairs;
-
-// A pair as one number, in the order of pairs.
-pub fn key(left: u32, right: u32) -> u64
-    requires { ⌜ left < most ⌝ }
-    ensures { λ r. ⌜ r ≡ states.key left right ⌝ }
-{
-    (left as u64) * 0x1_0000_0000 + (right as u64) + 1
-}
 
 // The marks of a pair that is touched, and has gained or not.
 fn mark(was: u8, gain: bool) -> u8
@@ -51,7 +40,7 @@ pub fn raise(room: &mut [u8], p: Pairs, n: usize, left: u32, right: u32, f: u64,
     requires { ⌜ CanRaise p n left right f (cells (now room)) ⌝ }
     ensures { λ m. ⌜ RaiseDone p n left right f w (cells (now (room .entry))) (cells (now (room .exit))) m ⌝ }
 {
-    let k = key(left, right);
+    let k = states::key(left, right);
     let r = pairs::entry(room, p, k);
     let c = fields::count(room, p, k, r);
     fields::set_count(room, p, k, r, c + f);
@@ -64,7 +53,7 @@ fn lower(room: &mut [u8], p: Pairs, n: usize, left: u32, right: u32, f: u64) -> 
     requires { ⌜ CanLower p n left right f (cells (now room)) ⌝ }
     ensures { λ m. ⌜ LowerDone p n left right f (cells (now (room .entry))) (cells (now (room .exit))) m ⌝ }
 {
-    let k = key(left, right);
+    let k = states::key(left, right);
     let v = pairs::find(room, p, k);
     let r = (v - 1) as usize;
     let c = fields::count(room, p, k, r);

@@ -1,6 +1,6 @@
 -- Lists of tests: none holds, the place of the first that does.
 use mathlib.Core.Path.{_≡_, refl, sym, _∙_}
-use mathlib.Core.Bool.{Bool, true, false, true≢false}
+use mathlib.Core.Bool.{Bool, true, false, _||_, true≢false}
 use mathlib.Core.List.{List, [], _∷_}
 use Prim.Native.Nat.{ℕ, zero, suc, _<_}
 use native.Mathlib.Omega.{arith}
@@ -40,3 +40,7 @@ first-least [] j h = absurd (omega arith)
 first-least (true ∷ bs) j h = absurd (omega arith)
 first-least (false ∷ bs) zero h = refl
 first-least (false ∷ bs) (suc j) h = first-least bs j (omega arith)
+
+pub either-false : (a b : Bool) → (a || b) ≡ false → (a ≡ false) × (b ≡ false)
+either-false true b e = absurd (true≢false e)
+either-false false b e = (refl, e)

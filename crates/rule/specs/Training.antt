@@ -99,3 +99,19 @@ trained t = trainFrom t (t .vocabSize - length (seeds t)) (seeds t) (kept t)
 -- the pieces of the full answer
 unfoldable pub allPieces : Task → List (List ℕ)
 allPieces t = seeds t ++ map (λ m. m .spelled) (trained t)
+
+-- ALL THAT A CHOICE ASKS OF A TASK is its prefix and its limit: a task with these and nothing else
+unfoldable pub limits : List ℕ → ℕ → Task
+limits prefix limit = record {
+  wordBytes = [];
+  wordEnds = [];
+  frequencyBytes = [];
+  alphabetBytes = [];
+  alphabetEnds = [];
+  prefix = prefix;
+  suffix = [];
+  seeding = 0;
+  vocabSize = 0;
+  minFrequency = 0;
+  maxPieceLength = limit;
+}

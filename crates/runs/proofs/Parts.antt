@@ -1,11 +1,13 @@
 -- The laws of `nth`, `put`, `part`, `laid` and `zeros`. Assumes nothing.
 use mathlib.Core.Path.{_≡_, refl, sym, ap, _∙_}
-use mathlib.Core.List.{List, [], _∷_, _++_, append-assoc, append-nil}
-use Prim.Native.Nat.{ℕ, suc, _+_, _-_, _<_, _≤_}
+use mathlib.Core.List.{List, [], _∷_, _++_, map, append-assoc, append-nil}
+use Prim.Native.Nat.{ℕ, zero, suc, _+_, _-_, _<_, _≤_}
 use native.Mathlib.Omega.{arith}
 use native.Mathlib.Nat.{le-trans}
 use native.Mathlib.Numerals.{add-one}
 use native.Mathlib.Decide.{decLt, ℕ-discrete}
+use lib.Dec.{eqb}
+use borrow.Author.Tests.{eq-eqb, ne-eqb}
 use lib.ListN.{length, getD, set, take, drop, length-append, length-take, length-drop, length-set, length-replicate, getD-replicate, replicate-append-replicate, take-append-drop, drop-of-length-le, List·getD-append, List·getD-eq-default}
 use lib.Seq.{ext-getD, getD-set-same, getD-set-other, getD-take, getD-drop, getD-append-add, take-suc, take-nil, take-all, take-add, drop-drop, drop-cons, length-take-le, set-at, take-at, drop-append-seam, drop-append-add, append-snoc}
 use Rattle.runs.specs.Parts.{nth, put, part, laid, zeros, Bytes}
@@ -235,3 +237,23 @@ zeros-append m n = replicate-append-replicate m n 0
 pub zeros-more : (n : ℕ) → zeros (n + 1) ≡ zeros n ++ (0 ∷ [])
 unfolding zeros
 zeros-more n = sym (replicate-append-replicate n 1 0)
+
+-- a run set to 0, and what is then written over its front
+pub laid-all : (run : List ℕ) → laid run 0 (zeros (length run)) ≡ zeros (length run)
+unfolding laid
+laid-all run =
+    let z : drop (0 + length (zeros (length run))) run ≡ [] = drop-of-length-le run {i = 0 + length (zeros (length run))} (omega (arith, length-zeros (length run))) in
+    rw z (append-nil (zeros (length run)))
+
+pub nth-map : (f : ℕ → ℕ) (l : List ℕ) (j : ℕ) → j < length l → nth (map f l) j ≡ f (nth l j)
+unfolding nth
+nth-map f [] j h = absurd (omega arith)
+nth-map f (x ∷ l) zero h = refl
+nth-map f (x ∷ l) (suc j) h = nth-map f l j (omega arith)
+
+pub bytes-known : (ws : List ℕ) → ((j : ℕ) → getD ws j 0 < 256) → Bytes ws
+unfolding nth
+bytes-known ws h = h
+
+pub eqb-sym : (a b : ℕ) → eqb a b ≡ eqb b a
+eqb-sym a b = same-or-not a b (λ e. eq-eqb a b e ∙ sym (eq-eqb b a (sym e))) (λ n. ne-eqb a b n ∙ sym (ne-eqb b a (λ e. n (sym e))))

@@ -18,7 +18,7 @@ use Rattle.intern.specs.Many.{Ran, Exceed}
 use Rattle.alphabet.specs.declared.Seeded.{Seeded}
 use Rattle.alphabet.specs.declared.Seeded.the-variants as seeded
 use Rattle.units.specs.Gathering.{allUnits, Heaped}
-use Rattle.word.specs.Layout.{corpus, Words}
+use Rattle.word.specs.Layout.{Words, wordsIn}
 use Rattle.word.specs.declared.WordSet.{WordSet}
 use Rattle.encoding.specs.Encoding.{decoratedUnits}
 use Rattle.encoding.specs.declared.Encoded.{Encoded}
@@ -80,7 +80,7 @@ unfoldable pub RestDone : Encoded → ℕ → ℕ → ℕ → ℕ → ℕ → Li
 RestDone (encoded.Done c′ u′ w) base cap c u units al ds fs xs ys cs vs ws =
     Ran base cap c u (foldl intern (pieces xs ys c) (al ++ flatMap (λ d. d) ds)) [] xs ys cs vs ws c′ u′
     × Words w cs
-    × (corpus cs (w .starts) (w .count) ≡ keptWith (foldl intern (pieces xs ys c) (al ++ flatMap (λ d. d) ds)) (numbers 8 fs) ds)
+    × (wordsIn w cs ≡ keptWith (foldl intern (pieces xs ys c) (al ++ flatMap (λ d. d) ds)) (numbers 8 fs) ds)
     × (w .top ≤ unitsAt units)
 RestDone encoded.NoRoom base cap c u units al ds fs xs ys cs vs ws = Exceed (foldl intern (pieces xs ys c) (al ++ flatMap (λ d. d) ds)) xs ys
 
@@ -105,7 +105,7 @@ pub record Sown (t : Task) (units : ℕ) (xs ys cs vs ws : List ℕ) (c u : ℕ)
   pub bytes : Kept 0 u xs vs
   pub ends : Kept 0 (c * 4) ys ws
   pub words : Words w cs
-  pub view : corpus cs (w .starts) (w .count) ≡ kept t
+  pub view : wordsIn w cs ≡ kept t
   pub top : w .top ≤ unitsAt units
 
 unfoldable pub SeedDone : Encoded → Task → ℕ → List ℕ → List ℕ → List ℕ → List ℕ → List ℕ → Type 0

@@ -1,7 +1,7 @@
 -- One pair is settled: it is released, or its marks go and it waits if it has gained. Assumes nothing.
 use mathlib.Core.Path.{_≡_, refl, sym, ap, _∙_}
 use mathlib.Core.Bool.{Bool, true, false, cond, _&&_}
-use mathlib.Core.List.{List, [], _∷_, _++_, append-nil}
+use mathlib.Core.List.{List, [], _∷_, append-nil}
 use mathlib.Core.Logic.{inl, inr}
 use Prim.Native.Nat.{ℕ, _+_, _*_, _<_, _≤_}
 use native.Mathlib.Omega.{arith}
@@ -12,9 +12,8 @@ use Rattle.runs.proofs.Parts.{below-or-not}
 use Rattle.runs.proofs.Frames.{kept-none, kept-then, kept-wide}
 use Rattle.queue.specs.declared.Candidate.{Candidate}
 use Rattle.queue.specs.Heap.{Heap, Pushed}
-use Rattle.queue.specs.Holding.{weighs, Holds}
 use Rattle.queue.proofs.Bag.{heap-same}
-use Rattle.queue.proofs.Holding.{holds-push, holds-kept}
+use Rattle.queue.proofs.Holding.{holds-kept, holds-last}
 use Rattle.marks.specs.Marks.{touched, gained, marked, marking}
 use Rattle.states.specs.State.{State, blank}
 use Rattle.pairs.specs.View.{behind, keyIn, state}
@@ -29,20 +28,6 @@ unfolding cleared
 cleared-is v x r e f = rw e at f
 
 -- A CANDIDATE AT THE END of what the queue holds: the order of the list says nothing
-
-weighs-last : (w : Candidate → ℕ) (es : List Candidate) (e : Candidate) → weighs w (es ++ (e ∷ [])) ≡ weighs w (e ∷ es)
-unfolding weighs
-weighs-last w [] e = refl
-weighs-last w (f ∷ es) e = omega (arith, weighs-last w es e)
-
-length-last : (es : List Candidate) (e : Candidate) → length (es ++ (e ∷ [])) ≡ length (e ∷ es)
-length-last [] e = refl
-length-last (f ∷ es) e = omega (arith, length-last es e)
-
-holds-last : (es : List Candidate) (q m : ℕ) (e : Candidate) (was is : List ℕ) → Holds es q m was → Pushed q m e was is → Holds (es ++ (e ∷ [])) q (m + 1) is
-holds-last es q m e was is h p =
-    let s = holds-push es q m e was is h p in
-    record { heap = s .heap; long = length-last es e ∙ s .long; bag = λ w. s .bag w ∙ sym (weighs-last w es e) }
 
 -- WAITING
 

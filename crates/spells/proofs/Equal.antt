@@ -9,7 +9,7 @@ use lib.ListN.{length, take, drop, length-append, length-drop}
 use lib.Seq.{take-all}
 use borrow.Author.Tests.{not-true, not-false}
 use Rattle.order.specs.Order.{same}
-use Rattle.runs.proofs.Loops.{equal-lengths}
+use Rattle.order.proofs.Comparing.{equal-lengths}
 
 pub same-cut : (a b p : List ℕ) → length a ≤ length p → same (a ++ b) p ≡ (same a (take (length a) p) && same b (drop (length a) p))
 unfolding same

@@ -1,8 +1,13 @@
 -- A pair as one number: two pairs never share it, its symbols are read back, and its order is that of pairs. Assumes nothing.
-use mathlib.Core.Path.{_≡_}
-use Prim.Native.Nat.{ℕ, _<_, _≤_}
+use mathlib.Core.Path.{_≡_, refl}
+use Prim.Native.Nat.{ℕ, _+_, _*_, _<_, _≤_}
 use native.Mathlib.Omega.{arith}
 use Rattle.states.specs.State.{most, key, leftOf, rightOf, OfPair}
+
+-- a key as the code makes it
+pub key-made : (a b : ℕ) → a * 4294967296 + b + 1 ≡ key a b
+unfolding key
+key-made a b = refl
 
 pub key-pos : (p q : ℕ) → 0 < key p q
 unfolding key
@@ -30,3 +35,7 @@ of-key p q h k =
 pub key-order : (c d : ℕ) → c ≤ d → (leftOf c ≤ leftOf d) × (leftOf c ≡ leftOf d → rightOf c ≤ rightOf d)
 unfolding leftOf rightOf
 key-order c d h = (omega arith, λ e. omega arith)
+
+-- THE SYMBOLS OF A PAIR
+pub pair-pos : (c : ℕ) → OfPair c → 0 < c
+pair-pos c p = rw (← (p .is)) (key-pos (leftOf c) (rightOf c))

@@ -1,4 +1,3 @@
 -- The laws of `text`: a character at a place of a word, the loops over a word, and the steps of a caller's loop.
-pub mod Places
 pub mod Loops
 pub mod Steps

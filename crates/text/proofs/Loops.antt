@@ -15,10 +15,11 @@ use Rattle.rfc3629.proofs.Rows.{len-bounds}
 use Rattle.rfc3629.proofs.Units.{well-nil, well-bad, well-next, unit-byte, unit-none, unit-char, unit-bounds, units-nil, units-next}
 use Rattle.rfc3629.proofs.Texts.{cut-bytes, seeded-bytes, seeded-chars, seeded-few}
 use Rattle.rule.specs.Table.{chars}
-use Rattle.text.specs.Units.{settingOf, byChars, rest, Next, Counted}
+use Rattle.text.specs.Units.{settingOf, byChars, Next, Counted}
+use Rattle.chars.specs.Places.{rest}
 use Rattle.text.specs.declared.Seeding.{Seeding}
 use Rattle.text.specs.declared.Seeding.the-variants.{Bytes, Chars}
-use Rattle.text.proofs.Places.{rest-length, rest-end, rest-on, rest-all}
+use Rattle.chars.proofs.Places.{rest-length, rest-end, rest-on, rest-all}
 
 -- THE SEEDING OF A SETTING
 

@@ -1,9 +1,9 @@
--- What the contracts of `text` cite beside the definitions of RFC 3629: a seeding, a place of a word, and two answers.
+-- What the contracts of `text` cite beside the definitions of RFC 3629: a seeding, and two answers.
 use mathlib.Core.Path.{_≡_}
 use mathlib.Core.Bool.{Bool}
 use mathlib.Core.List.{List}
 use Prim.Native.Nat.{ℕ, _+_, _-_, _≤_, _<_}
-use lib.ListN.{length, drop}
+use lib.ListN.{length}
 use Rattle.runs.specs.Parts.{part}
 use Rattle.rfc3629.specs.Cut.{unitLen, seeded}
 use Rattle.rule.specs.Table.{chars}
@@ -18,10 +18,6 @@ settingOf Chars = 1
 -- whether a seeding goes by characters
 unfoldable pub byChars : Seeding → Bool
 byChars d = chars (settingOf d)
-
--- what stands from a place on
-unfoldable pub rest : ℕ → List ℕ → List ℕ
-rest at xs = drop at xs
 
 -- r is where the unit at `at` ends, in a word that ends at `to`, by characters (true) or by bytes (false)
 pub record Next (whole : Bool) (s : List ℕ) (at to r : ℕ) : Type 0 where

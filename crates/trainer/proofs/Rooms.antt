@@ -1,14 +1,14 @@
 -- What is in the rooms after an answer: front and zeros, or zeros. Assumes nothing.
 use mathlib.Core.Path.{_≡_, refl, sym, ap, _∙_}
 use mathlib.Core.Bool.{true, false}
-use mathlib.Core.List.{List, [], _∷_, append-nil}
+use mathlib.Core.List.{List, [], _∷_}
 use Prim.Native.Nat.{ℕ, _+_, _-_, _≤_}
 use native.Mathlib.Omega.{arith}
 use lib.Dec.{eqb}
-use lib.ListN.{length, drop, drop-of-length-le}
+use lib.ListN.{length, drop}
 use lib.Seq.{drop-at}
 use Rattle.runs.specs.Parts.{laid, zeros}
-use Rattle.runs.proofs.Parts.{length-zeros, zeros-append}
+use Rattle.runs.proofs.Parts.{length-zeros, zeros-append, laid-all}
 use Rattle.rule.specs.Shapes.{filled}
 use Rattle.rule.specs.Table.{Task, Rooms}
 use Rattle.rule.specs.Training.{trained, allPieces}
@@ -23,13 +23,6 @@ use Rattle.table.specs.Answers.{laterRows}
 use Rattle.trainer.specs.Train.{answered, TableDone, Left, RoomsDone}
 use Rattle.trainer.specs.declared.Answer.{Answer}
 use Rattle.trainer.specs.declared.Answer.the-variants as is
-
--- a run set to 0, and what is then written over its front
-pub laid-all : (run : List ℕ) → laid run 0 (zeros (length run)) ≡ zeros (length run)
-unfolding laid
-laid-all run =
-    let z : drop (0 + length (zeros (length run))) run ≡ [] = drop-of-length-le run {i = 0 + length (zeros (length run))} (omega (arith, length-zeros (length run))) in
-    rw z (append-nil (zeros (length run)))
 
 pub laid-filled : (run new : List ℕ) → length new ≤ length run → laid (zeros (length run)) 0 new ≡ filled run new
 unfolding laid filled

@@ -7,8 +7,7 @@ use native.Mathlib.Omega.{arith}
 use lib.ListN.{length}
 use Rattle.runs.specs.Parts.{part, Bytes, Kept}
 use Rattle.runs.proofs.Parts.{length-part}
-use Rattle.runs.proofs.Frames.{kept-then, kept-wide}
-use Rattle.training.proofs.Turning.{laid-front}
+use Rattle.runs.proofs.Frames.{kept-then, kept-wide, laid-front}
 use Rattle.cells.specs.Cells.{cells}
 use Rattle.cells.proofs.Cells.{length-cells}
 use Rattle.rule.specs.Table.{Task, Rooms, A, U, roomFor, alphabet, frequencies, wordUnits, weighed}
@@ -25,7 +24,7 @@ use Rattle.intern.specs.Many.{Exceed}
 use Rattle.intern.proofs.Rooms.{length-pieces}
 use Rattle.intern.proofs.Many.{bytes-are, length-bytes, exceed-lengths}
 use Rattle.intern.proofs.Records.{records-are}
-use Rattle.word.specs.Layout.{corpus}
+use Rattle.word.specs.Layout.{wordsIn}
 use Rattle.word.specs.declared.WordSet.{WordSet}
 use Rattle.encoding.specs.declared.Encoded.{Encoded}
 use Rattle.encoding.specs.declared.Encoded.the-variants as encoded
@@ -137,7 +136,7 @@ module _ (ws es fs al ae p s : List ℕ) (seeding size least limit : ℕ) where
         bytes : u ≡ length (pieceBytes (seeds t))
         bytes = sym (length-bytes c u vs zs (sown .held)) ∙ ap (λ (ps : List (List ℕ)). length (pieceBytes ps)) are
 
-        view : corpus cs (w .starts) (w .count) ≡ kept t
+        view : wordsIn w cs ≡ kept t
         view = sown .view ∙ same-kept
 
         ends-fit : length (seeds t) * 4 ≤ length ys
@@ -165,7 +164,7 @@ module _ (ws es fs al ae p s : List ℕ) (seeding size least limit : ℕ) where
           settings = record { prefix-is = refl; least-is = refl; limit-is = refl }
 
           -- the merges of the loop are the task's
-          merges-are : trainFrom t (size - c) (pieces vs zs c) (corpus cs (w .starts) (w .count))
+          merges-are : trainFrom t (size - c) (pieces vs zs c) (wordsIn w cs)
               ≡ trained t
           unfolding trained
           merges-are = rw (are, view, number)
@@ -178,7 +177,7 @@ module _ (ws es fs al ae p s : List ℕ) (seeding size least limit : ℕ) where
           unfolding TableDone GrownDone GrownOut TrainedDone TooMuch trainVerdict
           table-done = go a g
             where
-              done : (n v k : ℕ) → c ≤ size → Written (trainFrom t (size - c) (pieces vs zs c) (corpus cs (w .starts) (w .count))) c u vs zs ms ss ls ks ns ts n v k
+              done : (n v k : ℕ) → c ≤ size → Written (trainFrom t (size - c) (pieces vs zs c) (wordsIn w cs)) c u vs zs ms ss ls ks ns ts n v k
                   → TableDone (is.Done n c k) t was (roomsOf after ls ks ns ts)
               done n v k h x =
                   let o = rw merges-are at x in

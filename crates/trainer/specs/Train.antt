@@ -17,7 +17,7 @@ use Rattle.error.specs.declared.TrainError.the-variants as why
 use Rattle.table.specs.Answers.{laterRows}
 use Rattle.layout.specs.Layout.{unitsAt, cellsFor}
 use Rattle.intern.specs.Pieces.{Held}
-use Rattle.word.specs.Layout.{corpus, Words}
+use Rattle.word.specs.Layout.{Words, wordsIn}
 use Rattle.word.specs.declared.WordSet.{WordSet}
 use Rattle.states.specs.Tracking.{Weighed}
 use Rattle.seeding.specs.Seeding.{CanSeed}
@@ -59,9 +59,9 @@ pub record CanGrow (w : WordSet) (n u units : ℕ) (cs xs ys : List ℕ) : Type 
   pub live : w .live ≤ units
   pub units-few : units ≤ 268435456
   pub room : cellsFor units 0 ≤ length cs
-  pub below : AllUnder n (corpus cs (w .starts) (w .count))
-  pub light : symbolsIn (corpus cs (w .starts) (w .count)) < 2 ^ 53
-  pub frequent : Weighed (corpus cs (w .starts) (w .count))
+  pub below : AllUnder n (wordsIn w cs)
+  pub light : symbolsIn (wordsIn w cs) < 2 ^ 53
+  pub frequent : Weighed (wordsIn w cs)
 
 -- ROWS 9 AND 10, and the merges, where n pieces of u bytes are the seeds
 unfoldable pub GrownOut : TrainError → WordSet → ℕ → ℕ → List ℕ → ℕ → ℕ → ℕ → List ℕ → List ℕ → List ℕ → List ℕ → List ℕ → List ℕ → List ℕ → List ℕ → List ℕ → Type 0

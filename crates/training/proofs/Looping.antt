@@ -8,16 +8,16 @@ use lib.ListN.{length}
 use Rattle.rule.specs.Table.{Task}
 use Rattle.rule.specs.Spelling.{joined}
 use Rattle.rule.specs.Seeding.{Entry}
-use Rattle.rule.specs.Training.{Merge, mergeOf, count, saving, joinedOf, rewriteAll, trainFrom}
+use Rattle.rule.specs.Training.{Merge, mergeOf, saving, joinedOf, rewriteAll, trainFrom}
 use Rattle.rule.specs.Layout.{pieceAt}
 use Rattle.rule.proofs.Demand.{train-next, train-spent}
 use Rattle.intern.specs.Pieces.{pieces, Held}
 use Rattle.intern.specs.Intern.{Lacks}
 use Rattle.intern.proofs.Rooms.{length-pieces, pieces-at}
-use Rattle.word.specs.Layout.{corpus}
+use Rattle.word.specs.Layout.{wordsIn}
 use Rattle.word.specs.declared.WordSet.{WordSet}
 use Rattle.pairs.specs.declared.Pairs.{Pairs}
-use Rattle.engine.specs.Engine.{wordsIn, Engaged, Limits, Waiting, Started, CanJoin}
+use Rattle.engine.specs.Engine.{Engaged, Limits, Waiting, Started, CanJoin}
 use Rattle.engine.specs.declared.Engine.{Engine}
 use Rattle.choosing.specs.Choosing.{CanChoose, Picked, NextDone}
 use Rattle.choosing.specs.declared.Next.{Next}
@@ -163,7 +163,7 @@ module _ (es₀ : List Entry) (n₀ u₀ : ℕ) (prefix : List ℕ) (size least 
 
 -- THE WAYS OUT, as the contract has them: the words at the start are those of the set w₀
 module _ (w₀ : WordSet) (bs : List ℕ) (es₀ : List Entry) (n₀ u₀ : ℕ) (prefix : List ℕ) (size least limit : ℕ) (xs ys ms ss cs vs ws ns ts : List ℕ) (g : Engine) (n u k : ℕ)
-    (z : es₀ ≡ corpus bs (w₀ .starts) (w₀ .count)) (l : Looping es₀ n₀ u₀ prefix size least limit xs ys ms ss cs vs ws ns ts g n u k) where
+    (z : es₀ ≡ wordsIn w₀ bs) (l : Looping es₀ n₀ u₀ prefix size least limit xs ys ms ss cs vs ws ns ts g n u k) where
   pub loop-full : size ≤ n → TrainedDone (trained.Done n u k) w₀ n₀ u₀ prefix size least limit bs xs ys ms ss vs ws ns ts
   unfolding TrainedDone
   loop-full h = rw (← z) (full es₀ n₀ u₀ prefix size least limit xs ys ms ss cs vs ws ns ts g n u k l h)

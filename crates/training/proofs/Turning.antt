@@ -8,9 +8,9 @@ use native.Mathlib.Omega.{arith}
 use lib.ListN.{length, length-append}
 use lib.Seq.{append-snoc}
 use borrow.Author.Tests.{not-true, not-false}
-use Rattle.runs.specs.Parts.{nth, part, laid, Kept}
-use Rattle.runs.proofs.Parts.{nth-ext, below-or-not, nth-part, part-none, part-split, part-laid, length-part, length-laid, nth-laid, nth-laid-after}
-use Rattle.runs.proofs.Frames.{kept-none, kept-then, kept-wide, kept-laid, kept-part}
+use Rattle.runs.specs.Parts.{part, Kept}
+use Rattle.runs.proofs.Parts.{part-none}
+use Rattle.runs.proofs.Frames.{kept-none, kept-then, kept-wide, kept-laid, laid-front, front-more}
 use Rattle.numbers.specs.Little.{spell}
 use Rattle.numbers.proofs.Little.{length-spell}
 use Rattle.rule.specs.Shapes.{spellAll}
@@ -33,15 +33,6 @@ use Rattle.training.specs.declared.Trained.the-variants as trained
 
 -- RUNS AND BYTES
 
--- a run whose front is known, and whose rest is as it was
-pub laid-front : (k : ℕ) (xs ys zs : List ℕ) → Kept 0 k xs ys → k ≤ length xs → part 0 k ys ≡ zs → ys ≡ laid xs 0 zs
-laid-front k xs ys zs p h e =
-    let l : length zs ≡ k = ap length (sym e) ∙ length-part 0 k ys (omega (arith, p .long)) in
-    nth-ext ys (laid xs 0 zs) (p .long ∙ sym (length-laid xs 0 zs (omega arith)))
-    (λ j i. below-or-not j k
-    (λ b. let z : 0 + j ≡ j = omega arith in rw z at (sym (nth-laid xs 0 zs (omega arith) j (omega arith) ∙ ap (λ (s : List ℕ). nth s j) (sym e) ∙ nth-part 0 k ys j b)))
-    (λ b. p .same j (inr b) ∙ sym (nth-laid-after xs 0 zs (omega arith) j (omega arith))))
-
 bytes-append : (ps qs : List (List ℕ)) → pieceBytes (ps ++ qs) ≡ pieceBytes ps ++ pieceBytes qs
 unfolding pieceBytes flatMap
 bytes-append [] qs = refl
@@ -50,15 +41,6 @@ bytes-append (p ∷ ps) qs = ap (λ (l : List ℕ). p ++ l) (bytes-append ps qs)
 bytes-cons : (p : List ℕ) (ps : List (List ℕ)) → length p ≤ length (pieceBytes (p ∷ ps))
 unfolding pieceBytes flatMap
 bytes-cons p ps = omega (arith, length-append p (pieceBytes ps))
-
--- the front of a run that is laid further on
-front-more : (k : ℕ) (xs zs : List ℕ) → k + length zs ≤ length xs → part 0 (k + length zs) (laid xs k zs) ≡ part 0 k xs ++ zs
-front-more k xs zs h =
-    let z : 0 + k ≡ k = omega arith in
-    part-split 0 k (length zs) (laid xs k zs)
-    ∙ ap (λ (l : List ℕ). l ++ part (0 + k) (length zs) (laid xs k zs)) (kept-part 0 k (kept-laid xs k zs h) (omega arith) (inl (omega arith)))
-    ∙ ap (λ (i : ℕ). part 0 k xs ++ part i (length zs) (laid xs k zs)) z
-    ∙ ap (λ (l : List ℕ). part 0 k xs ++ l) (part-laid xs k zs h)
 
 -- ONE MERGE in the rooms
 

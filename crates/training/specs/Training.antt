@@ -12,7 +12,7 @@ use Rattle.rule.specs.Layout.{mergeBytes, savingBytes}
 use Rattle.intern.specs.Pieces.{pieces, Held}
 use Rattle.intern.specs.Intern.{Lacks}
 use Rattle.intern.specs.Many.{Exceed}
-use Rattle.word.specs.Layout.{corpus}
+use Rattle.word.specs.Layout.{wordsIn}
 use Rattle.word.specs.declared.WordSet.{WordSet}
 use Rattle.engine.specs.Engine.{JoinDone}
 use Rattle.engine.specs.declared.Engine.{Engine}
@@ -60,7 +60,7 @@ TooMuch made ps xs ys ms ss = Exceed (withMerges ps made) xs ys ⊎ ((length ms 
 unfoldable pub TrainedDone : Trained → WordSet → ℕ → ℕ → List ℕ → ℕ → ℕ → ℕ → List ℕ → List ℕ → List ℕ → List ℕ → List ℕ → List ℕ → List ℕ → List ℕ → List ℕ → Type 0
 TrainedDone (trained.Done n′ u′ k) w n u prefix size least limit cs xs ys ms ss vs ws ns ts =
     (t : Task) → Settings t prefix least limit
-    → Written (trainFrom t (size - n) (pieces xs ys n) (corpus cs (w .starts) (w .count))) n u xs ys ms ss vs ws ns ts n′ u′ k
+    → Written (trainFrom t (size - n) (pieces xs ys n) (wordsIn w cs)) n u xs ys ms ss vs ws ns ts n′ u′ k
 TrainedDone trained.NoRoom w n u prefix size least limit cs xs ys ms ss vs ws ns ts =
     (t : Task) → Settings t prefix least limit
-    → TooMuch (trainFrom t (size - n) (pieces xs ys n) (corpus cs (w .starts) (w .count))) (pieces xs ys n) xs ys ms ss
+    → TooMuch (trainFrom t (size - n) (pieces xs ys n) (wordsIn w cs)) (pieces xs ys n) xs ys ms ss

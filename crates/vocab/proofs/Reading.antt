@@ -27,10 +27,6 @@ use Rattle.vocab.proofs.Shaped.{risen-at, shaped-rises}
 
 -- WHERE A PIECE STARTS
 
-pub start-first : (ends : List ℕ) (n : ℕ) → n ≡ 0 → 0 ≡ pieceStart ends n
-unfolding pieceStart
-start-first ends n e = rw e
-
 pub start-later : (ends : List ℕ) (n r : ℕ) → (n ≡ 0 → ⊥) → r ≡ nth (numbers 4 ends) (n - 1) → r ≡ pieceStart ends n
 unfolding pieceStart nth
 start-later ends zero r h e = absurd (h refl)

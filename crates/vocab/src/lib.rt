@@ -3,7 +3,7 @@
 // Pieces stand end to end in one run, and their ends, 4 bytes each, in another. No end is trusted
 // before all of them are tested, so that any two runs and any number have an answer.
 ghost use mathlib.Core.Path.{_≡_};
-ghost use Prim.Native.Nat.{_/_, _<_};
+ghost use Prim.Native.Nat.{_*_, _/_, _<_, _≤_};
 ghost use lib.ListN.{length};
 ghost use Rattle.runs.specs.Parts.{nth};
 ghost use Rattle.numbers.specs.Little.{numbers};
@@ -24,8 +24,8 @@ pub fn end_at(ends: &[u8], i: usize) -> usize
 }
 
 // Where piece n starts: at the end before it, the first at 0.
-fn start_at(ends: &[u8], n: usize) -> usize
-    requires { ⌜ n < length (now ends) / 4 ⌝ }
+pub fn piece_start(ends: &[u8], n: usize) -> usize
+    requires { ⌜ n * 4 ≤ length (now ends) ⌝ }
     ensures { λ r. ⌜ r ≡ pieceStart (now (ends .entry)) n ⌝ }
 {
     if n == 0 {
@@ -84,7 +84,7 @@ pub fn look(pieces: &[u8], ends: &[u8], number: u64) -> Lookup
         return Lookup::Refused(PieceError::NoSuchId);
     }
     let n = number as usize;
-    let start = start_at(ends, n);
+    let start = piece_start(ends, n);
     let end = end_at(ends, n);
     let length = end - start;
     Lookup::At { start, length }

@@ -9,7 +9,7 @@ use Rattle.runs.specs.Parts.{nth, part, Kept}
 use Rattle.runs.proofs.Frames.{kept-part}
 use Rattle.rule.specs.Seeding.{Entry}
 use Rattle.rule.specs.Sums.{inUse}
-use Rattle.word.specs.Layout.{symbolIn, symbolsAt, endAt, lines, corpus, entryAt, SameIn, InLine, Words, Numbers, Placed, Found}
+use Rattle.word.specs.Layout.{symbolIn, symbolsAt, endAt, lines, corpus, entryAt, SameIn, InLine, Words, Numbers, Placed, Found, wordsIn}
 use Rattle.word.specs.declared.WordSet.{WordSet}
 use Rattle.word.proofs.Views.{symbols-length, symbols-same, corpus-none, corpus-cons, corpus-entry, corpus-lines, lines-same, line-same}
 
@@ -25,11 +25,11 @@ module _ (w : WordSet) (cs : List ℕ) (σ : Words w cs) (k : ℕ) (h : k < w .c
   pub word-inside : endAt cs (nth cs (w .starts + k)) ≤ length cs
   word-inside = omega (arith, word-high, σ .room)
 
-  pub word-symbols : entryAt (corpus cs (w .starts) (w .count)) k .symbols ≡ symbolsAt (nth cs (w .starts + k) + 2) (nth cs (nth cs (w .starts + k) + 1)) cs
+  pub word-symbols : entryAt (wordsIn w cs) k .symbols ≡ symbolsAt (nth cs (w .starts + k) + 2) (nth cs (nth cs (w .starts + k) + 1)) cs
   unfolding symbolsAt
   word-symbols = ap (λ (e : Entry). e .symbols) (corpus-entry cs (w .starts) (w .count) k h)
 
-  pub word-frequency : entryAt (corpus cs (w .starts) (w .count)) k .frequency ≡ nth cs (nth cs (w .starts + k))
+  pub word-frequency : entryAt (wordsIn w cs) k .frequency ≡ nth cs (nth cs (w .starts + k))
   word-frequency = ap (λ (e : Entry). e .frequency) (corpus-entry cs (w .starts) (w .count) k h)
 
   pub placed : (s : ℕ) → s ≡ nth cs (w .starts + k) → Placed w k cs s
@@ -37,7 +37,7 @@ module _ (w : WordSet) (cs : List ℕ) (σ : Words w cs) (k : ℕ) (h : k < w .c
 
 -- as the code reads it, from its place s
 module _ (w : WordSet) (cs : List ℕ) (σ : Words w cs) (k s : ℕ) (h : k < w .count) (p : Placed w k cs s) where
-  pub frequency-read : (v : ℕ) → v ≡ nth cs s → v ≡ entryAt (corpus cs (w .starts) (w .count)) k .frequency
+  pub frequency-read : (v : ℕ) → v ≡ nth cs s → v ≡ entryAt (wordsIn w cs) k .frequency
   frequency-read v f = rw (word-frequency w cs σ k h, ← p .place) f
 
   pub word-found : (n : ℕ) → n ≡ nth cs (s + 1) → Found w k cs (record { start = s + 2; length = n })
@@ -83,7 +83,7 @@ module _ (cs ds : List ℕ) (starts n lo hi : ℕ) (l : InLine cs starts n lo hi
 
 module _ (w : WordSet) (cs ds : List ℕ) (σ : Words w cs) (e : length ds ≡ length cs)
     (p : SameIn (w .starts) (w .starts + w .count) cs ds) (q : SameIn (w .low) (w .top) cs ds) where
-  pub corpus-as-it-was : corpus ds (w .starts) (w .count) ≡ corpus cs (w .starts) (w .count)
+  pub corpus-as-it-was : wordsIn w ds ≡ wordsIn w cs
   corpus-as-it-was =
       corpus-lines cs ds (w .starts) (w .count)
       (lines-in-line cs ds (w .starts) (w .count) (w .low) (w .top) (σ .inLine) p q (σ .room) e)
@@ -115,7 +115,7 @@ module _ (w : WordSet) (cs ds : List ℕ) (lo hi : ℕ) (σ : Words w cs) (k : K
   pub words-kept : Words w ds
   words-kept = words-as-they-were w cs ds σ (k .long) places inside
 
-  pub corpus-kept : corpus ds (w .starts) (w .count) ≡ corpus cs (w .starts) (w .count)
+  pub corpus-kept : wordsIn w ds ≡ wordsIn w cs
   corpus-kept = corpus-as-it-was w cs ds σ (k .long) places inside
 
 -- and some symbols that a change leaves out are as they were
@@ -126,7 +126,7 @@ symbols-kept {lo} {hi} {cs} {ds} at n k h o = symbols-same at n cs ds (kept-part
 -- NO WORDS
 
 module _ (r : WordSet) (starts low : ℕ) (cs : List ℕ) (n : Numbers r starts 0 low low 0) where
-  pub corpus-empty : corpus cs (r .starts) (r .count) ≡ []
+  pub corpus-empty : wordsIn r cs ≡ []
   corpus-empty = rw (n .count-is) (corpus-none cs (r .starts))
 
   pub words-empty : starts ≤ low → low ≤ length cs → length cs < 2 ^ 61 → Words r cs

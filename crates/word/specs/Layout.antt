@@ -39,6 +39,10 @@ bySymbols e = record { frequency = e .frequency; symbols = map symbolIn (e .symb
 unfoldable pub corpus : List ℕ → ℕ → ℕ → List Entry
 corpus cs starts n = map bySymbols (lines cs starts n)
 
+-- the words of a set
+abbrev pub wordsIn : WordSet → List ℕ → List Entry
+wordsIn w cs = corpus cs (w .starts) (w .count)
+
 -- word k of some words, and past their end one that says nothing
 unfoldable pub entryAt : List Entry → ℕ → Entry
 entryAt es k = getD es k (record { frequency = 0; symbols = [] })
@@ -60,7 +64,7 @@ pub record Words (w : WordSet) (cs : List ℕ) : Type 0 where
   pub room : w .top ≤ length cs
   pub apart : w .starts + w .count ≤ w .low
   pub inLine : InLine cs (w .starts) (w .count) (w .low) (w .top)
-  pub used : w .live ≡ inUse (corpus cs (w .starts) (w .count))
+  pub used : w .live ≡ inUse (wordsIn w cs)
 
 -- a set's numbers, one by one
 pub record Numbers (r : WordSet) (starts count low top live : ℕ) : Type 0 where
@@ -78,7 +82,7 @@ pub record Placed (w : WordSet) (k : ℕ) (cs : List ℕ) (s : ℕ) : Type 0 whe
 
 -- where the symbols of word k stand
 pub record Found (w : WordSet) (k : ℕ) (cs : List ℕ) (r : Span) : Type 0 where
-  pub symbols : symbolsAt (r .start) (r .length) cs ≡ entryAt (corpus cs (w .starts) (w .count)) k .symbols
+  pub symbols : symbolsAt (r .start) (r .length) cs ≡ entryAt (wordsIn w cs) k .symbols
   pub place : r .start ≡ nth cs (w .starts + k) + 2
-  pub long : r .length ≡ length (entryAt (corpus cs (w .starts) (w .count)) k .symbols)
+  pub long : r .length ≡ length (entryAt (wordsIn w cs) k .symbols)
   pub room : r .start + r .length ≤ length cs

@@ -1,6 +1,7 @@
 -- `choosing::left_of` meets its contract.
 use borrow.Author.Needs.{needs}
-use Rattle.choosing.proofs.Small.{pair-pos, left-is}
+use Rattle.choosing.proofs.Small.{left-is}
+use Rattle.states.proofs.Keys.{pair-pos}
 use Rattle.choosing.proofs.left_of.Statement.{statement}
 use Rattle.choosing.proofs.left_of.Tie as tie
 

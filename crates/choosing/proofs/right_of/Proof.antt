@@ -1,6 +1,7 @@
 -- `choosing::right_of` meets its contract.
 use borrow.Author.Needs.{needs}
-use Rattle.choosing.proofs.Small.{pair-pos, right-is}
+use Rattle.choosing.proofs.Small.{right-is}
+use Rattle.states.proofs.Keys.{pair-pos}
 use Rattle.choosing.proofs.right_of.Statement.{statement}
 use Rattle.choosing.proofs.right_of.Tie as tie
 

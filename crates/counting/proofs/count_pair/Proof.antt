@@ -6,7 +6,7 @@ use lib.ListN.{drop}
 use Rattle.cells.specs.Cells.{cells}
 use Rattle.rule.specs.Training.{count}
 use Rattle.rule.specs.Sums.{symbolsIn}
-use Rattle.word.specs.Layout.{corpus, Words}
+use Rattle.word.specs.Layout.{Words, wordsIn}
 use Rattle.counting.proofs.Counts.{sum-start, sum-turn, sum-end}
 use Rattle.counting.proofs.count_pair.Statement.{statement}
 use Rattle.counting.proofs.count_pair.Tie as tie
@@ -17,8 +17,8 @@ abbrev Inv-loop : tie.InvT-loop
 Inv-loop room w p q sum₀ k₀ sum k =
     Words w (cells room)
     × (k ≤ w .count)
-    × (sum + symbolsIn (drop k (corpus (cells room) (w .starts) (w .count))) < 2 ^ 53)
-    × (count p q (corpus (cells room) (w .starts) (w .count)) ≡ sum + count p q (drop k (corpus (cells room) (w .starts) (w .count))))
+    × (sum + symbolsIn (drop k (wordsIn w (cells room))) < 2 ^ 53)
+    × (count p q (wordsIn w (cells room)) ≡ sum + count p q (drop k (wordsIn w (cells room))))
 
 abbrev μ-loop : tie.MeasureT-loop
 μ-loop room w p q sum₀ k₀ sum k = w .count - k

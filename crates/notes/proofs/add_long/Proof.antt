@@ -1,6 +1,6 @@
 -- `notes::add_long` meets its contract: the word in the run, then the number.
 use borrow.Author.Needs.{needs}
-use Rattle.lists.proofs.Reading.{live-within}
+use Rattle.records.proofs.Laws.{live-within}
 use Rattle.notes.proofs.Adding.{can-number, added-long}
 use Rattle.notes.proofs.add_long.Statement.{statement}
 use Rattle.notes.proofs.add_long.Tie as tie

@@ -5,10 +5,10 @@ use Prim.Native.Nat.{_+_, _≤_}
 use lib.ListN.{length}
 use Rattle.cells.specs.Cells.{cells}
 use Rattle.rule.specs.Sums.{Under}
-use Rattle.rule.specs.Training.{best, candidatesIn}
+use Rattle.rule.specs.Training.{best, candidatesIn, limits}
 use Rattle.intern.specs.Pieces as rooms
-use Rattle.word.specs.Layout.{symbolsAt, corpus, entryAt}
-use Rattle.recount.specs.Recount.{limits, ruled, Weighed}
+use Rattle.word.specs.Layout.{symbolsAt, entryAt, wordsIn}
+use Rattle.recount.specs.Recount.{ruled, Weighed}
 use Rattle.recount.proofs.Scanning.{under-here, under-next, under-rest, under-start, scan-start, scan-turn, scan-end}
 use Rattle.recount.proofs.best_word.Statement.{statement}
 use Rattle.recount.proofs.best_word.Tie as tie
@@ -19,9 +19,9 @@ abbrev Inv-loop : tie.InvT-loop
 Inv-loop room w pieces ends count used prefix limit k at₀ left₀ d₀ at left d =
     (at + left ≤ length (cells room))
     × Under count (symbolsAt at left (cells room))
-    × Weighed (corpus (cells room) (w .starts) (w .count)) d
-    × (best (ruled d₀) (candidatesIn (limits prefix limit) (rooms.pieces pieces ends count) (corpus (cells room) (w .starts) (w .count)) (entryAt (corpus (cells room) (w .starts) (w .count)) k .symbols))
-    ≡ best (ruled d) (candidatesIn (limits prefix limit) (rooms.pieces pieces ends count) (corpus (cells room) (w .starts) (w .count)) (symbolsAt at left (cells room))))
+    × Weighed (wordsIn w (cells room)) d
+    × (best (ruled d₀) (candidatesIn (limits prefix limit) (rooms.pieces pieces ends count) (wordsIn w (cells room)) (entryAt (wordsIn w (cells room)) k .symbols))
+    ≡ best (ruled d) (candidatesIn (limits prefix limit) (rooms.pieces pieces ends count) (wordsIn w (cells room)) (symbolsAt at left (cells room))))
 
 abbrev μ-loop : tie.MeasureT-loop
 μ-loop room w pieces ends count used prefix limit k at₀ left₀ d₀ at left d = left

@@ -4,10 +4,10 @@ use mathlib.Core.Path.{_≡_}
 use Prim.Native.Nat.{_-_, _≤_}
 use lib.ListN.{drop}
 use Rattle.cells.specs.Cells.{cells}
-use Rattle.rule.specs.Training.{best, candidates, choose}
+use Rattle.rule.specs.Training.{best, candidates, choose, limits}
 use Rattle.intern.specs.Pieces as rooms
-use Rattle.word.specs.Layout.{corpus}
-use Rattle.recount.specs.Recount.{limits, ruled, Weighed}
+use Rattle.word.specs.Layout.{wordsIn}
+use Rattle.recount.specs.Recount.{ruled, Weighed}
 use Rattle.recount.proofs.Scanning.{nothing-weighed, choose-start, choose-turn, choose-end}
 use Rattle.recount.proofs.next_merge.Statement.{statement}
 use Rattle.recount.proofs.next_merge.Tie as tie
@@ -17,9 +17,9 @@ ruleset laws = (nothing-weighed, choose-start, choose-turn, choose-end, needs)
 abbrev Inv-loop : tie.InvT-loop
 Inv-loop room w pieces ends count used prefix limit d₀ k₀ d k =
     (k ≤ w .count)
-    × Weighed (corpus (cells room) (w .starts) (w .count)) d
-    × (choose (limits prefix limit) (rooms.pieces pieces ends count) (corpus (cells room) (w .starts) (w .count))
-    ≡ best (ruled d) (candidates (limits prefix limit) (rooms.pieces pieces ends count) (corpus (cells room) (w .starts) (w .count)) (drop k (corpus (cells room) (w .starts) (w .count)))))
+    × Weighed (wordsIn w (cells room)) d
+    × (choose (limits prefix limit) (rooms.pieces pieces ends count) (wordsIn w (cells room))
+    ≡ best (ruled d) (candidates (limits prefix limit) (rooms.pieces pieces ends count) (wordsIn w (cells room)) (drop k (wordsIn w (cells room)))))
 
 abbrev μ-loop : tie.MeasureT-loop
 μ-loop room w pieces ends count used prefix limit d₀ k₀ d k = w .count - k

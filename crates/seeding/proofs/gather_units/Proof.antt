@@ -2,7 +2,7 @@
 use borrow.Author.Needs.{needs}
 use native.Mathlib.Omega.{arith}
 use Rattle.seeding.proofs.Stages.{gather-slots, gather-room, gather-can, counted-chars}
-use Rattle.units.proofs.Gathering.{bytes-known}
+use Rattle.runs.proofs.Parts.{bytes-known}
 use Rattle.seeding.proofs.gather_units.Statement.{statement}
 use Rattle.seeding.proofs.gather_units.Tie as tie
 

@@ -1,7 +1,7 @@
 -- `seeding::seed` meets its contract: the stages one behind the other.
 use borrow.Author.Needs.{needs}
 use native.Mathlib.Omega.{arith}
-use Rattle.units.proofs.Gathering.{bytes-known}
+use Rattle.runs.proofs.Parts.{bytes-known}
 use Rattle.seeding.proofs.Whole.{whole-few, whole-counting, first-low, symbols-few, whole-room, whole-begin, whole-on, whole-out, whole-done}
 use Rattle.seeding.proofs.seed.Statement.{statement}
 use Rattle.seeding.proofs.seed.Tie as tie

@@ -5,8 +5,8 @@ use mathlib.Core.Path.{_≡_}
 use Prim.Native.Nat.{_-_, _≤_}
 use lib.ListN.{length}
 use Rattle.rfc3629.specs.Cut.{wellFormed}
-use Rattle.text.specs.Units.{rest}
-use Rattle.text.proofs.Places.{len-small}
+use Rattle.chars.specs.Places.{rest}
+use Rattle.chars.proofs.Places.{len-small}
 use Rattle.text.proofs.Loops.{well-start, well-out, well-turn, well-end, char-fits}
 use Rattle.text.proofs.all_chars.Statement.{statement}
 use Rattle.text.proofs.all_chars.Tie as tie

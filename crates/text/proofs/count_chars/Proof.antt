@@ -6,8 +6,8 @@ use Prim.Native.Nat.{_+_, _-_, _≤_}
 use lib.ListN.{length}
 use mathlib.Core.Bool.{true}
 use Rattle.rfc3629.specs.Cut.{wellFormed, unitsBy}
-use Rattle.text.specs.Units.{rest}
-use Rattle.text.proofs.Places.{len-small}
+use Rattle.chars.specs.Places.{rest}
+use Rattle.chars.proofs.Places.{len-small}
 use Rattle.text.proofs.Loops.{well-start, well-turn, char-fits, count-start, count-out, count-turn, count-end}
 use Rattle.text.proofs.count_chars.Statement.{statement}
 use Rattle.text.proofs.count_chars.Tie as tie

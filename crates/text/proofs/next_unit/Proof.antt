@@ -1,7 +1,7 @@
 -- `text::next_unit` meets its contract: a byte, or the character that stands there.
 use borrow.Author.Needs.{needs}
 use native.Mathlib.Omega.{arith}
-use Rattle.text.proofs.Places.{len-small}
+use Rattle.chars.proofs.Places.{len-small}
 use Rattle.text.proofs.Loops.{next-byte, next-none, next-char}
 use Rattle.text.proofs.next_unit.Statement.{statement}
 use Rattle.text.proofs.next_unit.Tie as tie

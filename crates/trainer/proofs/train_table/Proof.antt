@@ -2,7 +2,7 @@
 use borrow.Author.Needs.{needs}
 use native.Mathlib.Omega.{arith}
 use mathlib.Core.Path.{refl}
-use Rattle.units.proofs.Gathering.{bytes-known}
+use Rattle.runs.proofs.Parts.{bytes-known}
 use Rattle.trainer.proofs.Table.{can-seed, table-out, table-ready, table-done}
 use Rattle.trainer.proofs.train_table.Statement.{statement}
 use Rattle.trainer.proofs.train_table.Tie as tie

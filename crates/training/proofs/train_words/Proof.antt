@@ -5,7 +5,7 @@ use mathlib.Core.Path.{_≡_}
 use Prim.Native.Nat.{_-_, _≤_, max}
 use lib.ListN.{length}
 use Rattle.cells.specs.Cells.{cells}
-use Rattle.engine.specs.Engine.{wordsIn}
+use Rattle.word.specs.Layout.{wordsIn}
 use Rattle.training.proofs.Looping.{Looping, loop-start, loop-can, loop-join, loop-full, loop-stop, loop-out, loop-next}
 use Rattle.training.proofs.train_words.Statement.{statement}
 use Rattle.training.proofs.train_words.Tie as tie

@@ -18,8 +18,8 @@ returns-2 c = search laws
 returns-3 : tie.Need-returns-3
 returns-3 c = search laws
 
-start-at-requires : tie.Need-start-at-requires
-start-at-requires c κs = search laws
+piece-start-requires : tie.Need-piece-start-requires
+piece-start-requires c κs = search laws
 
 end-at-requires : tie.Need-end-at-requires
 end-at-requires c κs = search laws
@@ -38,7 +38,7 @@ look-spec =
     returns
     returns-2
     returns-3
-    start-at-requires
+    piece-start-requires
     end-at-requires
     sub-length
     returns-4)

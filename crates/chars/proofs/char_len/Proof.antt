@@ -1,11 +1,11 @@
--- `text::char_len` meets its contract: each row is the definition's, by the range of the first octet.
+-- `chars::char_len` meets its contract: each row is the definition's, by the range of the first octet.
 use borrow.Author.Needs.{needs}
 use native.Mathlib.Omega.{arith}
 use mathlib.Core.Path.{refl}
-use Rattle.text.proofs.Places.{char-end, char-row}
+use Rattle.chars.proofs.Places.{char-end, char-row}
 use Rattle.rfc3629.proofs.Rows.{lead-1, lead-2, lead-E0, lead-E1, lead-ED, lead-EE, lead-F0, lead-F1, lead-F4, lead-low, lead-high}
-use Rattle.text.proofs.char_len.Statement.{statement}
-use Rattle.text.proofs.char_len.Tie as tie
+use Rattle.chars.proofs.char_len.Statement.{statement}
+use Rattle.chars.proofs.char_len.Tie as tie
 
 returns : tie.Need-returns
 returns c = char-end _ _ (omega arith)

@@ -1,8 +1,8 @@
--- `text::octet` meets its contract: an octet is there, it is not too low, and the last test decides.
+-- `chars::octet` meets its contract: an octet is there, it is not too low, and the last test decides.
 use borrow.Author.Needs.{needs}
-use Rattle.text.proofs.Places.{octet-end, octet-low, octet-high}
-use Rattle.text.proofs.octet.Statement.{statement}
-use Rattle.text.proofs.octet.Tie as tie
+use Rattle.chars.proofs.Places.{octet-end, octet-low, octet-high}
+use Rattle.chars.proofs.octet.Statement.{statement}
+use Rattle.chars.proofs.octet.Tie as tie
 
 ruleset laws = (octet-end, octet-low, octet-high, needs)
 

@@ -13,7 +13,7 @@ use borrow.Author.Tests.{not-true, not-false, le-leb}
 use Rattle.runs.proofs.Parts.{below-or-not}
 use Rattle.rfc3629.specs.Rows.{within, heads, tails, follow, byLead, charLen}
 use Rattle.rfc3629.proofs.Rows.{under, len-bounds}
-use Rattle.text.specs.Units.{rest}
+use Rattle.chars.specs.Places.{rest}
 
 -- WHAT STANDS FROM A PLACE ON
 

@@ -1,8 +1,8 @@
--- `reports::key` meets its contract: a pair as one number.
+-- `states::key` meets its contract: a pair as one number.
 use borrow.Author.Needs.{needs}
-use Rattle.reports.proofs.Changes.{key-made}
-use Rattle.reports.proofs.key.Statement.{statement}
-use Rattle.reports.proofs.key.Tie as tie
+use Rattle.states.proofs.Keys.{key-made}
+use Rattle.states.proofs.key.Statement.{statement}
+use Rattle.states.proofs.key.Tie as tie
 
 ruleset laws = (key-made, needs)
 

@@ -1,13 +1,13 @@
--- `text::followed` meets its contract: the whole answer is the answer from the k-th tail on.
+-- `chars::followed` meets its contract: the whole answer is the answer from the k-th tail on.
 use borrow.Author.Needs.{needs}
 use mathlib.Core.Path.{_≡_}
 use Prim.Native.Nat.{_+_, _-_, _≤_, _<_}
 use lib.ListN.{length}
 use Rattle.rfc3629.specs.Rows.{follow}
-use Rattle.text.specs.Units.{rest}
-use Rattle.text.proofs.Places.{followFrom, follow-none, follow-start, follow-second, follow-out, follow-turn, follow-tail, follow-end}
-use Rattle.text.proofs.followed.Statement.{statement}
-use Rattle.text.proofs.followed.Tie as tie
+use Rattle.chars.specs.Places.{rest}
+use Rattle.chars.proofs.Places.{followFrom, follow-none, follow-start, follow-second, follow-out, follow-turn, follow-tail, follow-end}
+use Rattle.chars.proofs.followed.Statement.{statement}
+use Rattle.chars.proofs.followed.Tie as tie
 
 ruleset laws = (follow-none, follow-start, follow-second, follow-out, follow-turn, follow-tail, follow-end, needs)
 

@@ -1,0 +1,2 @@
+-- The laws of `chars`.
+pub mod Places

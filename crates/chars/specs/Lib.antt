@@ -1,0 +1,2 @@
+-- The definitions of `chars`: what its contracts cite beside those of RFC 3629.
+pub mod Places
