@@ -23,7 +23,7 @@ use Rattle.queue.proofs.Holding.{in-here, in-rest, in-either, holds-push, holds
 use Rattle.states.specs.State.{leftOf, rightOf, OfPair}
 use Rattle.waiting.specs.Waiting.{waits, queueOf}
 use Rattle.waiting.proofs.Queue.{queue-none, queue-pop, queue-cons}
-use Rattle.recount.proofs.Limits.{within-limits}
+use Rattle.rule.proofs.Choosing.{within-limits}
 use Rattle.engine.specs.Engine.{Limits, Queued, Waiting}
 
 -- A TASK, by its prefix and its limit; there is always one

@@ -123,7 +123,7 @@ fn take_head(
     }
     let a = left_of(e.key);
     let b = right_of(e.key);
-    if recount::is_within(pieces, ends, count, used, prefix, limit, a, b) {
+    if lengths::is_within(pieces, ends, count, used, prefix, limit, a, b) {
         return Turn::Answer(Next::Pair(renew(g, m, g.turns), a, b, live));
     }
     block(room, g.pairs, e.key);

@@ -1,75 +1,40 @@
 -- A piece and a merge behind those that are there. Assumes nothing.
-use mathlib.Core.Path.{_≡_, refl, sym, ap, _∙_}
+use mathlib.Core.Path.{_≡_, refl, ap, _∙_}
 use mathlib.Core.Bool.{true, false}
 use mathlib.Core.List.{List, _++_}
 use mathlib.Core.Logic.{inl, inr}
 use Prim.Native.Nat.{ℕ, _+_, _*_, _-_, _/_, _^_, _<_, _≤_}
 use native.Mathlib.Omega.{arith}
-use lib.ListN.{length, take, drop}
+use lib.ListN.{length}
 use Rattle.runs.specs.Parts.{part, laid}
-use Rattle.runs.proofs.Parts.{length-part, part-lent, laid-laid}
+use Rattle.runs.proofs.Parts.{laid-laid}
 use Rattle.numbers.specs.Little.{store, spell}
 use Rattle.numbers.proofs.Little.{length-spell}
 use Rattle.rule.specs.Layout.{pieceStart, pieceAt}
 use Rattle.rule.specs.Spelling.{joined}
 use Rattle.spelling.specs.Lengths.{joinedLength}
 use Rattle.spelling.specs.Writing.{Written}
-use Rattle.spelling.proofs.Lengths.{joined-long}
 use Rattle.intern.specs.Pieces.{Held}
 use Rattle.intern.specs.Intern.{Lacks}
-use Rattle.intern.proofs.Rooms.{piece-part, piece-inside, pieces-more, pieces-same, more-bytes, more-ends, more-old, more-new, more-held}
+use Rattle.intern.proofs.Rooms.{pieces-more, pieces-same, more-bytes, more-ends, more-old, more-new, more-held}
+use Rattle.lengths.proofs.Joined.{between, piece-is, measured}
 use Rattle.output.specs.Output.{PieceDone, MergeDone}
 use Rattle.output.specs.declared.Appended.the-variants as is
-
--- A PIECE OF THE ROOMS, between its two ends
-module _ (n u k : ℕ) (xs ys : List ℕ) (l : Held n u xs ys) (h : k < n) (from to : ℕ) (e : from ≡ pieceStart ys k) (f : to ≡ pieceStart ys (k + 1)) where
-  between : (from ≤ to) × (to ≤ length xs) × (to ≤ u) × (to ≤ 4294967295)
-  between =
-      let i = piece-inside n u k from to xs ys l h e f in
-      let m = l .low (k + 1) (omega arith) in
-      (i .0, i .1, omega (arith, m), omega (arith, m, l .small))
-
-  pub rises : from ≤ to
-  rises = between .0
-
-  pub ends-inside : to ≤ length xs
-  ends-inside = between .1
-
-  pub piece-is : part from (to - from) xs ≡ pieceAt xs ys k
-  piece-is = rw (e, f) (sym (piece-part xs ys k))
-
-  pub length-piece : length (pieceAt xs ys k) ≡ to - from
-  length-piece = let i = between in ap length (sym piece-is) ∙ length-part from (to - from) xs (omega arith)
 
 -- A JOINED PIECE
 module _ (n u left right : ℕ) (prefix xs ys : List ℕ) (l : Held n u xs ys) (hl : left < n) (hr : right < n) (lf lt rf rt : ℕ)
     (e : lf ≡ pieceStart ys left) (f : lt ≡ pieceStart ys (left + 1)) (g : rf ≡ pieceStart ys right) (h : rt ≡ pieceStart ys (right + 1)) where
-  -- its length, by the ends of the left one and the bytes of the right one
-  measured : length (joined prefix (pieceAt xs ys left) (pieceAt xs ys right)) ≡ joinedLength (lt - lf) prefix (part rf (rt - rf) xs)
-  measured =
-      joined-long prefix (pieceAt xs ys left) (pieceAt xs ys right)
-      ∙ rw (length-piece n u left xs ys l hl lf lt e f, piece-is n u right xs ys l hr rf rt g h)
-
-  pub joined-is : (r : ℕ) → r ≡ joinedLength (lt - lf) prefix (take (rt - rf) (drop rf xs)) → r ≡ length (joined prefix (pieceAt xs ys left) (pieceAt xs ys right))
-  joined-is r q = q ∙ rw (part-lent rf rt xs) (sym measured)
-
-  pub sum-fits : lt - lf + length (take (rt - rf) (drop rf xs)) < 2 ^ 64
-  sum-fits =
-      let a = between n u left xs ys l hl lf lt e f in
-      let b = between n u right xs ys l hr rf rt g h in
-      rw (part-lent rf rt xs, length-part rf (rt - rf) xs (omega arith)) (omega arith)
-
   module _ (r : ℕ) (q : r ≡ length (joined prefix (pieceAt xs ys left) (pieceAt xs ys right))) (fit : r ≤ length xs - u) where
     pub can-join : (lf + (lt - lf) ≤ u) × (rf + (rt - rf) ≤ u) × (u + joinedLength (lt - lf) prefix (part rf (rt - rf) xs) ≤ length xs)
     can-join =
         let a = between n u left xs ys l hl lf lt e f in
         let b = between n u right xs ys l hr rf rt g h in
-        (omega arith, omega arith, omega (arith, measured, l .bytes))
+        (omega arith, omega arith, omega (arith, measured n u left right prefix xs ys l hl hr lf lt rf rt e f g h, l .bytes))
 
     module _ (short : r ≤ 4294967295 - u) (vs : List ℕ) (v : ℕ)
         (w : Written xs vs u (joined prefix (part lf (lt - lf) xs) (part rf (rt - rf) xs)) (joinedLength (lt - lf) prefix (part rf (rt - rf) xs)) v) where
       behind : v ≡ u + length (joined prefix (pieceAt xs ys left) (pieceAt xs ys right))
-      behind = omega (arith, w .behind, measured)
+      behind = omega (arith, w .behind, measured n u left right prefix xs ys l hl hr lf lt rf rt e f g h)
 
       pub end-fits : v < 2 ^ 32
       end-fits = omega (arith, behind, q, l .small)

@@ -1,9 +1,7 @@
 // What a merge adds to the answer: the joined piece and its end, the merge and its saving.
 //
 // Each is written behind those that are there, and nothing is written where one has no place.
-ghost use mathlib.Core.Path.{_≡_};
 ghost use Prim.Native.Nat.{_+_, _*_, _<_};
-ghost use lib.ListN.{length};
 ghost use Rattle.rule.specs.Layout.{pieceAt};
 ghost use Rattle.rule.specs.Spelling.{joined};
 ghost use Rattle.intern.specs.Pieces.{Held};
@@ -11,26 +9,6 @@ ghost use Rattle.output.specs.Output.{PieceDone, MergeDone};
 
 // The end of a piece has 4 bytes.
 const LONGEST: usize = 4294967295;
-
-// How many bytes the pieces `left` and `right` have when they are joined.
-fn joined_bytes(
-    pieces: &[u8],
-    ends: &[u8],
-    count: usize,
-    used: usize,
-    left: u32,
-    right: u32,
-    prefix: &[u8],
-) -> usize
-    requires { ⌜ (Held count used (now pieces) (now ends)) × (left < count) × (right < count) ⌝ }
-    ensures { λ r. ⌜ r ≡ length (joined (now (prefix .entry)) (pieceAt (now (pieces .entry)) (now (ends .entry)) left) (pieceAt (now (pieces .entry)) (now (ends .entry)) right)) ⌝ }
-{
-    let left_from = vocab::piece_start(ends, left as usize);
-    let left_to = vocab::piece_start(ends, left as usize + 1);
-    let right_from = vocab::piece_start(ends, right as usize);
-    let right_to = vocab::piece_start(ends, right as usize + 1);
-    spelling::joined_length(left_to - left_from, &pieces[right_from..right_to], prefix)
-}
 
 // Where a new piece ends, or that it has no place.
 pub enum Appended {
@@ -55,7 +33,7 @@ pub fn append_piece(
     if ends.len() / 4 <= count {
         return Appended::NoRoom;
     }
-    let n = joined_bytes(pieces, ends, count, used, left, right, prefix);
+    let n = lengths::joined_bytes(pieces, ends, count, used, left, right, prefix);
     if pieces.len() - used < n {
         return Appended::NoRoom;
     }

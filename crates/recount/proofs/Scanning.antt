@@ -19,7 +19,7 @@ use Rattle.word.proofs.Views.{symbols-length, symbols-two, symbols-next, corpus
 use Rattle.recount.specs.Recount.{ruled, pick, known, Weighed, Tried, Chosen}
 use Rattle.recount.specs.declared.Choice.{Choice}
 use Rattle.recount.proofs.Picking.{pick-best, Same, known-same}
-use Rattle.recount.proofs.Limits.{choose-limits}
+use Rattle.rule.proofs.Choosing.{choose-limits}
 
 -- THE BEST OF MANY, and of many more
 pub best-append : (c : rule.Choice) (ds es : List rule.Choice) → best c (ds ++ es) ≡ best (best c ds) es

@@ -5,8 +5,6 @@ ghost use mathlib.Core.Path.{_≡_};
 ghost use mathlib.Core.List.{[], _∷_};
 ghost use Prim.Native.Nat.{_<_};
 ghost use Rattle.cells.specs.Cells.{cells};
-ghost use Rattle.rule.specs.Training.{within, limits};
-ghost use Rattle.intern.specs.Pieces.{Held};
 ghost use Rattle.intern.specs.Pieces as rooms;
 ghost use Rattle.word.specs.Layout.{corpus, entryAt, wordsIn};
 ghost use Rattle.recount.specs.Recount.{pick, known, Ready, Weighed, Tried, Chosen};
@@ -53,30 +51,6 @@ fn is_known(c: Choice, s: u32, t: u32) -> bool
     c.right == t
 }
 
-// Tells whether the piece that s and t make is within the limit. Of the left spelling the length is
-// enough, which its two ends tell.
-pub fn is_within(
-    pieces: &[u8],
-    ends: &[u8],
-    count: usize,
-    used: usize,
-    prefix: &[u8],
-    limit: u64,
-    s: u32,
-    t: u32,
-) -> bool
-    requires { ⌜ Held count used (now pieces) (now ends) ⌝ }
-    requires { ⌜ (s < count) × (t < count) ⌝ }
-    ensures { λ r. ⌜ r ≡ within (limits (now (prefix .entry)) limit) (rooms.pieces (now (pieces .entry)) (now (ends .entry)) count) s t ⌝ }
-{
-    let start = vocab::piece_start(ends, s as usize);
-    let end = vocab::piece_start(ends, s as usize + 1);
-    let from = vocab::piece_start(ends, t as usize);
-    let to = vocab::piece_start(ends, t as usize + 1);
-    let long = spelling::joined_length(end - start, &pieces[from..to], prefix);
-    long as u64 <= limit
-}
-
 // The better of d and (s,t), which is skipped where it is over-long. A pair that is the best so far
 // is not counted again.
 fn try_pair(
@@ -101,7 +75,7 @@ fn try_pair(
     if is_known(d, s, t) {
         return d;
     }
-    if !is_within(pieces, ends, count, used, prefix, limit, s, t) {
+    if !lengths::is_within(pieces, ends, count, used, prefix, limit, s, t) {
         return d;
     }
     let times = counting::count_pair(room, w, s, t);

@@ -11,7 +11,7 @@ use borrow.Author.Tests.{ltb-true, ltb-false, eqb-true, eqb-false}
 use Rattle.rule.specs.Table.{Task}
 use Rattle.rule.specs.Seeding.{Entry}
 use Rattle.rule.specs.Rewriting.{bit, isPair, link, countIn}
-use Rattle.rule.specs.Training.{count, within, Choice, nothing, better, best, candidatesIn, candidates, choose}
+use Rattle.rule.specs.Training.{count, joinedOf, within, Choice, nothing, better, best, candidatesIn, candidates, choose, limits}
 use Rattle.rule.specs.Demand.{Lower, Open, Chosen}
 use Rattle.runs.proofs.Parts.{same-or-not, below-or-not}
 use Rattle.rule.proofs.Rewriting.{pair-true}
@@ -231,3 +231,24 @@ module _ (t : Task) (ps : List (List ℕ)) (es : List Entry) where
       let m = open-enough a b (c .isOpen) in
       let e = chosen-one (choose t ps es .left) (choose t ps es .right) a b (choose-chosen m) c in
       record { left = e .0; right = e .1; enough = m }
+
+-- A CHOICE ASKS NOTHING of a task but its prefix and its limit
+module _ (t : Task) (p : List ℕ) (limit : ℕ) (ep : t .prefix ≡ p) (el : t .maxPieceLength ≡ limit) (ps : List (List ℕ)) where
+  pub within-limits : (a b : ℕ) → within t ps a b ≡ within (limits p limit) ps a b
+  unfolding within joinedOf limits
+  within-limits a b = rw (ep, el)
+
+  candidatesIn-limits : (es : List Entry) (l : List ℕ) → candidatesIn t ps es l ≡ candidatesIn (limits p limit) ps es l
+  unfolding candidatesIn
+  candidatesIn-limits es [] = refl
+  candidatesIn-limits es (a ∷ []) = refl
+  candidatesIn-limits es (a ∷ b ∷ l) = rw (within-limits a b, candidatesIn-limits es (b ∷ l))
+
+  candidates-limits : (all es : List Entry) → candidates t ps all es ≡ candidates (limits p limit) ps all es
+  unfolding candidates
+  candidates-limits all [] = refl
+  candidates-limits all (e ∷ es) = rw (candidatesIn-limits all (e .symbols), candidates-limits all es)
+
+  pub choose-limits : (es : List Entry) → choose t ps es ≡ choose (limits p limit) ps es
+  unfolding choose
+  choose-limits es = rw (candidates-limits es es)

@@ -66,7 +66,8 @@ is-within-requires : tie.Need-is-within-requires
 is-within-requires c κs =
     let p = c .before .before .before .before .before .before .before .before .before in
     let s = headed (p .before .before .before .before .before .before .before .pre .1 .0) (p .pop .ensures) in
-    (p .before .before .before .before .before .before .before .pre .0, within-asks s (c .before .left-of .ensures) (c .right-of .ensures))
+    let w = within-asks s (c .before .left-of .ensures) (c .right-of .ensures) in
+    (p .before .before .before .before .before .before .before .pre .0, w .0, w .1)
 
 renew-requires-2 : tie.Need-renew-requires-2
 renew-requires-2 c κs = search needs

@@ -1,7 +1,8 @@
 -- `output::append_piece` meets its contract: what has no place is refused before anything is written.
 use borrow.Author.Needs.{needs}
 use native.Mathlib.Omega.{arith}
-use Rattle.output.proofs.Appending.{rises, ends-inside, no-ends, no-bytes, too-long, can-join, end-fits, piece-done}
+use Rattle.lengths.proofs.Joined.{rises, ends-inside}
+use Rattle.output.proofs.Appending.{no-ends, no-bytes, too-long, can-join, end-fits, piece-done}
 use Rattle.output.proofs.append_piece.Statement.{statement}
 use Rattle.output.proofs.append_piece.Tie as tie
 

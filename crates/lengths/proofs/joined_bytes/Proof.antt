@@ -1,28 +1,28 @@
--- `recount::is_within` meets its contract: the four ends tell the left length and the right spelling.
+-- `lengths::joined_bytes` meets its contract: of the left piece its ends are enough.
 use borrow.Author.Needs.{needs}
-use Rattle.recount.proofs.Limits.{ends-rise, part-rises, part-inside, lengths-fit, within-is}
-use Rattle.recount.proofs.is_within.Statement.{statement}
-use Rattle.recount.proofs.is_within.Tie as tie
+use Rattle.lengths.proofs.Joined.{rises, ends-inside, joined-is, sum-fits}
+use Rattle.lengths.proofs.joined_bytes.Statement.{statement}
+use Rattle.lengths.proofs.joined_bytes.Tie as tie
 
-ruleset laws = (ends-rise, part-rises, part-inside, lengths-fit, within-is, needs)
+ruleset laws = (rises, ends-inside, joined-is, sum-fits, needs)
 
 piece-start-requires : tie.Need-piece-start-requires
-piece-start-requires c κs = search needs
+piece-start-requires c κs = search laws
 
 add-piece-start : tie.Need-add-piece-start
-add-piece-start c = search needs
+add-piece-start c = search laws
 
 piece-start-requires-2 : tie.Need-piece-start-requires-2
-piece-start-requires-2 c κs = search needs
+piece-start-requires-2 c κs = search laws
 
 piece-start-requires-3 : tie.Need-piece-start-requires-3
-piece-start-requires-3 c κs = search needs
+piece-start-requires-3 c κs = search laws
 
 add-piece-start-2 : tie.Need-add-piece-start-2
-add-piece-start-2 c = search needs
+add-piece-start-2 c = search laws
 
 piece-start-requires-4 : tie.Need-piece-start-requires-4
-piece-start-requires-4 c κs = search needs
+piece-start-requires-4 c κs = search laws
 
 sub-joined-length : tie.Need-sub-joined-length
 sub-joined-length c = search laws
@@ -42,8 +42,8 @@ joined-length-requires c κs = search laws
 returns : tie.Need-returns
 returns c = search laws
 
-pub is-within-spec : {M : Type 1} → statement M
-is-within-spec =
+pub joined-bytes-spec : {M : Type 1} → statement M
+joined-bytes-spec =
     tie.close
     (tie.spec
     piece-start-requires

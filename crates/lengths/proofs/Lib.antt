@@ -1,0 +1,2 @@
+-- The laws of `lengths`.
+pub mod Joined
