@@ -162,7 +162,8 @@ fn tell(r: Answer, piece_bytes: &[u8], ends: &[u8], pairs: &[u8]) {
     io::write_all(STDOUT_FILENO, b"\n");
 }
 
-// Trains on a table whose runs are in the room, as pieces with these ends, and writes its line.
+// Trains on a table and writes its line. The runs are pieces with these ends, numbered as the lines
+// are, so that the settings are the room's first 32 bytes; a table with fewer has no line.
 fn train(room: &[u8], ends: &[u8]) {
     if room.len() < 32 {
         return;
@@ -193,7 +194,7 @@ fn train(room: &[u8], ends: &[u8]) {
     tell(r, &pieces, &piece_ends, &merges);
 }
 
-// Reads one table, its runs end to end, and trains on it.
+// Reads the table at the front of the text, its runs end to end, and trains on it.
 fn table(s: &[u8]) {
     let mut room = [0u8; 1024];
     let mut ends = [0u8; 32];
@@ -205,6 +206,7 @@ fn table(s: &[u8]) {
     train(&room[0..end], &ends);
 }
 
+// Goes through the tables, eight lines each.
 fn run(s: &[u8]) {
     let mut at = 0;
     while at < s.len() {
