@@ -16,20 +16,10 @@ use libc::STDOUT_FILENO;
 const SYMBOLS: [u32; 4] = [97, 98, 0, 0xFF02_0100];
 
 // How many words there are of each length.
-const WORDS: [u64; 7] = [1, 3, 9, 27, 81, 243, 729];
+const WORDS: [u16; 7] = [1, 3, 9, 27, 81, 243, 729];
 
-// A checksum, and how many cases went into it.
-struct Tally {
-    sum: u32,
-    cases: u64,
-}
-
-fn one_more(tally: Tally, sum: u32) -> Tally {
-    Tally {
-        sum: sum,
-        cases: std::num::wrapping_add_u64(tally.cases, 1),
-    }
-}
+// What a checksum is before its first byte.
+const START: u32 = 2166136261;
 
 fn text(s: &[u8]) {
     io::write_all(STDOUT_FILENO, s);
@@ -49,17 +39,11 @@ fn hex_line(name: &[u8], s: &[u8]) {
     text(b"\n");
 }
 
-// One byte more in a checksum.
-fn fold(sum: u32, b: u64) -> u32
-    requires { ⌜ b < 256 ⌝ }
-{
-    (((sum as u64) + b) * 16777619 % 4294967296) as u32
-}
-
-fn fold_run(start: u32, s: &[u8]) -> u32 {
+// The checksum of some bytes behind those that come to `start`.
+fn fold(start: u32, s: &[u8]) -> u32 {
     let mut sum = start;
     for i in 0..s.len() {
-        sum = fold(sum, wide(s[i]));
+        sum = (((sum as u64) + wide(s[i])) * 16777619 % 4294967296) as u32;
     }
     sum
 }
@@ -73,8 +57,9 @@ fn tell(start: u32, full: bool, r: u64, symbols: &[u8], changes: &[u8], answer: 
         hex_line(b"answer ", answer);
         return start;
     }
-    let sum = fold_run(fold(start, r % 256), symbols);
-    fold_run(fold_run(sum, changes), answer)
+    let number = [(r % 256) as u8];
+    let sum = fold(fold(start, &number), symbols);
+    fold(fold(sum, changes), answer)
 }
 
 // One outcome, where of each run only the front is lent.
@@ -159,43 +144,31 @@ fn examples() {
     case(0, true, 4, 30, 97, 98, 256, 16, 48, 64);
 }
 
-// The lengths of an answer run: one byte short, exactly long enough, longer.
-fn told(k: usize) -> usize
-    ensures { λ r. ⌜ r ≤ 72 ⌝ }
-{
-    if k == 0 {
-        63
-    } else if k == 1 {
-        64
-    } else {
-        72
-    }
+fn number(v: u64) {
+    io::print_decimal(STDOUT_FILENO, v);
+    text(b" ");
 }
 
-// The word a b a b a b, whose number has the digits 0 1 0 1 0 1, with 0 to 24 bytes of it, each
-// answer run, and a list of 0 to 144 bytes.
-fn shapes() -> Tally {
-    let mut tally = Tally {
-        sum: 2166136261,
-        cases: 0,
-    };
+// How many cases there were, and their checksum.
+fn line(cases: u64, sum: u32) {
+    number(cases);
+    io::print_hex(STDOUT_FILENO, sum as u64, 8);
+    text(b"\n");
+}
+
+// The word a b a b a b, whose number has the digits 0 1 0 1 0 1, with 0 to 24 bytes of it, an answer
+// run that is one byte short, exactly long enough or longer, and a list of 0 to 144 bytes.
+fn shapes() {
+    let mut sum = START;
     for t in 0..10875 {
-        let told = told(t / 145 % 3);
-        let sum = case(
-            tally.sum,
-            false,
-            6,
-            273,
-            97,
-            98,
-            256,
-            t / 435,
-            t % 145,
-            told,
-        );
-        tally = one_more(tally, sum);
+        let told = match t / 145 % 3 {
+            0 => 63,
+            1 => 64,
+            _ => 72,
+        };
+        sum = case(sum, false, 6, 273, 97, 98, 256, t / 435, t % 145, told);
     }
-    tally
+    line(10875, sum);
 }
 
 // 0: all equal; 1: a pair of equal symbols; 2, 3: x is the left or the right one; 4: all differ.
@@ -211,71 +184,46 @@ fn kind(a: usize, b: usize, x: usize) -> u64 {
     }
 }
 
-// The pairs and new symbols of one kind, on one word, each with a list of 0 to 9 places.
-fn triples(start: Tally, n: usize, number: u64, k: u64) -> Tally
+// All words of n symbols, of which there are `many`, each with the pairs and new symbols of one kind
+// and with a list of 0 to 9 places.
+fn words(n: usize, many: u16, k: u64)
     requires { ⌜ n ≤ 6 ⌝ }
 {
-    let mut tally = start;
-    for t in 0..640 {
-        let a = t / 160;
+    let mut sum = START;
+    let mut cases = 0;
+    for t in 0..many as usize * 640 {
+        let a = t / 160 % 4;
         let b = t / 40 % 4;
         let x = t / 10 % 4;
         if kind(a, b, x) == k {
-            let list = t % 10 * 16;
-            let sum = case(
-                tally.sum,
+            sum = case(
+                sum,
                 false,
                 n,
-                number,
+                (t / 640) as u64,
                 SYMBOLS[a],
                 SYMBOLS[b],
                 SYMBOLS[x],
                 n * 4,
-                list,
+                t % 10 * 16,
                 72,
             );
-            tally = one_more(tally, sum);
+            cases += 1;
         }
     }
-    tally
-}
-
-// All words of n symbols, of which there are `many`.
-fn words(n: usize, many: u64, k: u64) -> Tally
-    requires { ⌜ n ≤ 6 ⌝ }
-{
-    let mut tally = Tally {
-        sum: 2166136261,
-        cases: 0,
-    };
-    for number in 0..many {
-        tally = triples(tally, n, number, k);
-    }
-    tally
-}
-
-fn number(v: u64) {
-    io::print_decimal(STDOUT_FILENO, v);
-    text(b" ");
-}
-
-// How many cases there were, and their checksum.
-fn line(t: Tally) {
-    number(t.cases);
-    io::print_hex(STDOUT_FILENO, t.sum as u64, 8);
-    text(b"\n");
+    line(cases, sum);
 }
 
 fn main() {
     examples();
     text(b"runs of any length: ");
-    line(shapes());
+    shapes();
     text(b"by length and kind:\n");
     for t in 0..35 {
         let n = t / 5;
         let k = (t % 5) as u64;
         number(n as u64);
         number(k);
-        line(words(n, WORDS[n], k));
+        words(n, WORDS[n], k);
     }
 }

@@ -1,19 +1,26 @@
 //! Records what the original answers, for the program `replay`, which needs neither the original nor
 //! Rust: `record FOLDER` writes FOLDER/stdin with the tables and FOLDER/stdout with the answers.
 //!
-//! A table is a block of lines. Numbers are decimal, bytes are pairs of lower-case hexadecimal digits
-//! with `-` for none, fields have one space between them, and each line ends with LF:
+//! A table is eight lines, the runs that the library is lent, in this order; a number is little-endian:
 //!
-//!     T seeding size minimum limit prefix suffix
-//!     A symbol              for each symbol of the initial alphabet
-//!     W word frequency      for each word, in rising byte order
-//!     .
+//!     settings        seeding, size, minimum and limit, 8 bytes each
+//!     words           end to end, in rising byte order
+//!     word_ends       4 bytes each
+//!     frequencies     8 bytes each
+//!     alphabet        the symbols of the initial alphabet, end to end
+//!     alphabet_ends   4 bytes each
+//!     prefix
+//!     suffix
+//!
+//! A line is the run's name, then, unless the run is empty, a space and two lower-case hexadecimal digits
+//! for each byte, then LF.
 //!
 //! Its answer is one line: `pieces alphabet merges checksum`, the three counts and a checksum over the
 //! piece bytes, then the piece ends and then the merges as the library lays them out: from 0, for each
 //! byte b, h becomes (h * 31 + b) mod 2^32. Where the original says that the size is too small it is
-//! `refused 9 size alphabet`. No table has more than 48 units, 8 symbols of alphabet, 64 words, 16 bytes of
-//! prefix or suffix, or 1,024 piece bytes, and no size is over 400, so that small fixed rooms are enough.
+//! `refused 9 size alphabet`. No table has more than 48 units, 8 symbols of alphabet, 16 bytes of prefix or
+//! suffix, 1,024 bytes in all its runs, or 1,024 piece bytes, and no size is over 400, so that small fixed
+//! rooms are enough.
 //!
 //! Each answer is the original's, and a table is left out unless a plain recount agrees with it. The tables
 //! are the examples of document 01 that the original knows, and random ones over all settings from a
@@ -36,8 +43,8 @@ const SEED: u64 = 20_261_115;
 
 const MOST_UNITS: u64 = 48;
 const MOST_SYMBOLS: usize = 8;
-const MOST_WORDS: usize = 64;
 const MOST_MARK: usize = 16;
+const MOST_RUN_BYTES: usize = 1024;
 const MOST_SIZE: u64 = 400;
 const MOST_PIECE_BYTES: usize = 1024;
 
@@ -114,9 +121,9 @@ fn recorded(task: Task) -> Option<(Task, Recorded)> {
     let words = task.word_list();
     let units = (model::work_needed(&task) - 32_768) / 512 - task.alphabet_list().len() as u64;
     let fits = units <= MOST_UNITS
-        && words.len() <= MOST_WORDS
         && task.alphabet_list().len() <= MOST_SYMBOLS
         && task.prefix.len().max(task.suffix.len()) <= MOST_MARK
+        && run_bytes(&task) <= MOST_RUN_BYTES
         // Tables with an empty word stand outside of the comparison.
         && words.iter().all(|(word, _)| !word.is_empty());
     if !fits {
@@ -128,24 +135,31 @@ fn recorded(task: Task) -> Option<(Task, Recorded)> {
     (bytes <= MOST_PIECE_BYTES).then_some((task, answer))
 }
 
-fn hex(bytes: &[u8]) -> String {
-    match bytes {
-        [] => "-".into(),
-        _ => bytes.iter().map(|b| format!("{b:02x}")).collect(),
-    }
+/// The runs of a table with their names, in the order of the lines.
+fn runs(task: &Task) -> [(&'static str, Vec<u8>); 8] {
+    let settings = [task.seeding, task.vocab_size, task.min_frequency, task.max_piece_length];
+    [
+        ("settings", settings.map(u64::to_le_bytes).concat()),
+        ("words", task.words.clone()),
+        ("word_ends", task.word_ends.clone()),
+        ("frequencies", task.frequencies.clone()),
+        ("alphabet", task.alphabet.clone()),
+        ("alphabet_ends", task.alphabet_ends.clone()),
+        ("prefix", task.prefix.clone()),
+        ("suffix", task.suffix.clone()),
+    ]
+}
+
+fn run_bytes(task: &Task) -> usize {
+    runs(task).iter().map(|(_, run)| run.len()).sum()
 }
 
 fn put_table(text: &mut String, task: &Task) {
-    let Task { seeding, vocab_size, min_frequency, max_piece_length, .. } = task;
-    let (prefix, suffix) = (hex(&task.prefix), hex(&task.suffix));
-    writeln!(text, "T {seeding} {vocab_size} {min_frequency} {max_piece_length} {prefix} {suffix}").unwrap();
-    for symbol in task.alphabet_list() {
-        writeln!(text, "A {}", hex(&symbol)).unwrap();
+    for (name, run) in runs(task) {
+        let space = if run.is_empty() { "" } else { " " };
+        let digits: String = run.iter().map(|b| format!("{b:02x}")).collect();
+        writeln!(text, "{name}{space}{digits}").unwrap();
     }
-    for (word, frequency) in task.word_list() {
-        writeln!(text, "W {} {frequency}", hex(&word)).unwrap();
-    }
-    text.push_str(".\n");
 }
 
 fn put_answer(text: &mut String, answer: &Recorded) {
@@ -163,25 +177,15 @@ fn put_answer(text: &mut String, answer: &Recorded) {
 /// The greatest of each kind, for the rooms of the program that reads this.
 #[derive(Debug, Default)]
 struct Most {
-    word_bytes: usize,
-    words: usize,
-    alphabet_bytes: usize,
-    prefix_and_suffix: usize,
+    run_bytes: usize,
     pieces: u64,
     merges: u64,
     piece_bytes: usize,
-    line: usize,
 }
 
 impl Most {
     fn note(&mut self, task: &Task, answer: &Recorded) {
-        let mut text = String::new();
-        put_table(&mut text, task);
-        self.line = self.line.max(text.lines().map(str::len).max().unwrap_or(0));
-        self.word_bytes = self.word_bytes.max(task.words.len());
-        self.words = self.words.max(task.word_ends.len() / 4);
-        self.alphabet_bytes = self.alphabet_bytes.max(task.alphabet.len());
-        self.prefix_and_suffix = self.prefix_and_suffix.max(task.prefix.len()).max(task.suffix.len());
+        self.run_bytes = self.run_bytes.max(run_bytes(task));
         if let Ok(full) = answer {
             self.pieces = self.pieces.max(full.counts[0]);
             self.merges = self.merges.max(full.counts[2]);

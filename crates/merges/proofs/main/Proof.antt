@@ -23,9 +23,6 @@ text-requires c κs = search needs
 shapes-requires : tie.Need-shapes-requires Inv-loop μ-loop
 shapes-requires c κs = search needs
 
-line-requires : tie.Need-line-requires Inv-loop μ-loop
-line-requires c κs = search needs
-
 slice-aggregate-text-2 : tie.Need-slice-aggregate-text-2 Inv-loop μ-loop
 slice-aggregate-text-2 c = search needs
 
@@ -50,9 +47,6 @@ array-read-words c = search needs
 words-requires : tie.Need-words-requires Inv-loop μ-loop
 words-requires c κs = search needs
 
-line-requires-2 : tie.Need-line-requires-2 Inv-loop μ-loop
-line-requires-2 c κs = search needs
-
 add-t : tie.Need-add-t Inv-loop μ-loop
 add-t c = search needs
 
@@ -75,7 +69,6 @@ main-spec =
     slice-aggregate-text
     text-requires
     shapes-requires
-    line-requires
     slice-aggregate-text-2
     text-requires-2
     loop-holds
@@ -84,7 +77,6 @@ main-spec =
     mul-words
     array-read-words
     words-requires
-    line-requires-2
     add-t
     loop-less
     loop-again

@@ -1,27 +1,23 @@
--- `merges::shapes` is safe and ends: each number below 10875 is three lengths within their runs.
+-- `merges::shapes` is safe and ends: each number below 10,875 is a length of each run.
 use borrow.Author.Needs.{needs}
+use native.Mathlib.Omega.{arith}
+use mathlib.Core.Logic.{⊎-elim}
 use Prim.Native.Nat.{_-_, _≤_}
 use Rattle.merges.proofs.shapes.Statement.{statement}
 use Rattle.merges.proofs.shapes.Tie as tie
 
 abbrev Inv-loop : tie.InvT-loop
-Inv-loop tally₀ t₀ tally t =
+Inv-loop sum₀ t₀ sum t =
     t ≤ 10875
 
 abbrev μ-loop : tie.MeasureT-loop
-μ-loop tally₀ t₀ tally t = 10875 - t
+μ-loop sum₀ t₀ sum t = 10875 - t
 
 loop-holds : tie.Need-loop-holds Inv-loop μ-loop
 loop-holds c = search needs
 
-told-requires : tie.Need-told-requires Inv-loop μ-loop
-told-requires c κs = search needs
-
 case-requires : tie.Need-case-requires Inv-loop μ-loop
-case-requires c κs = search needs
-
-one-more-requires : tie.Need-one-more-requires Inv-loop μ-loop
-one-more-requires c κs = search needs
+case-requires c κs = ⊎-elim (λ w. omega arith) (⊎-elim (λ w. omega arith) (λ w. omega arith)) (c .match .came)
 
 add-t : tie.Need-add-t Inv-loop μ-loop
 add-t c = search needs
@@ -31,6 +27,9 @@ loop-less c = search needs
 
 loop-again : tie.Need-loop-again Inv-loop μ-loop
 loop-again c = search needs
+
+line-requires : tie.Need-line-requires Inv-loop μ-loop
+line-requires c κs = search needs
 
 returns : tie.Need-returns Inv-loop μ-loop
 returns c = search needs
@@ -42,10 +41,9 @@ shapes-spec =
     Inv-loop
     μ-loop
     loop-holds
-    told-requires
     case-requires
-    one-more-requires
     add-t
     loop-less
     loop-again
+    line-requires
     returns)

@@ -1,5 +1,6 @@
 -- `replay::run` is safe and ends: the place stays within the text.
 use borrow.Author.Needs.{needs}
+use native.Mathlib.Omega.{arith}
 use Prim.Native.Nat.{_-_, _≤_}
 use lib.ListN.{length}
 use Rattle.replay.proofs.run.Statement.{statement}
@@ -15,23 +16,26 @@ abbrev μ-loop : tie.MeasureT-loop
 loop-holds : tie.Need-loop-holds Inv-loop μ-loop
 loop-holds c = search needs
 
-table-end-requires : tie.Need-table-end-requires Inv-loop μ-loop
-table-end-requires c κs = search needs
+sub-rest : tie.Need-sub-rest Inv-loop μ-loop
+sub-rest c = search needs
 
-sub-table : tie.Need-sub-table Inv-loop μ-loop
-sub-table c = search needs
+part-rest-start : tie.Need-part-rest-start Inv-loop μ-loop
+part-rest-start c = search needs
 
-part-table-start : tie.Need-part-table-start Inv-loop μ-loop
-part-table-start c = search needs
-
-part-table-end : tie.Need-part-table-end Inv-loop μ-loop
-part-table-end c = search needs
+part-rest-end : tie.Need-part-rest-end Inv-loop μ-loop
+part-rest-end c = search needs
 
 table-requires : tie.Need-table-requires Inv-loop μ-loop
 table-requires c κs = search needs
 
+behind-requires : tie.Need-behind-requires Inv-loop μ-loop
+behind-requires c κs = search needs
+
+add-at : tie.Need-add-at Inv-loop μ-loop
+add-at c = search needs
+
 loop-less : tie.Need-loop-less Inv-loop μ-loop
-loop-less c = search needs
+loop-less c = omega (arith, c .behind .ensures .1 (omega arith) (omega arith))
 
 loop-again : tie.Need-loop-again Inv-loop μ-loop
 loop-again c = search needs
@@ -46,11 +50,12 @@ run-spec =
     Inv-loop
     μ-loop
     loop-holds
-    table-end-requires
-    sub-table
-    part-table-start
-    part-table-end
+    sub-rest
+    part-rest-start
+    part-rest-end
     table-requires
+    behind-requires
+    add-at
     loop-less
     loop-again
     returns)
