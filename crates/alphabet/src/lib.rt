@@ -91,9 +91,7 @@ pub fn seed_bytes(
                 u = v;
                 b += 1;
             }
-            Seeded::NoRoom => {
-                return Seeded::NoRoom;
-            }
+            Seeded::NoRoom => return Seeded::NoRoom,
         }
     }
     Seeded::Done(n, u)
@@ -131,9 +129,7 @@ pub fn seed_alphabet(
                 last = end;
                 k += 1;
             }
-            Seeded::NoRoom => {
-                return Seeded::NoRoom;
-            }
+            Seeded::NoRoom => return Seeded::NoRoom,
         }
     }
     Seeded::Done(n, u)

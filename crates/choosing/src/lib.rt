@@ -156,9 +156,7 @@ pub fn next_merge(
             Turn::On(next) => {
                 h = next;
             }
-            Turn::Answer(r) => {
-                return r;
-            }
+            Turn::Answer(r) => return r,
         }
     }
     Next::Nothing

@@ -131,9 +131,7 @@ fn seed_word(
                 at = end;
                 n += 1;
             }
-            Seeded::NoRoom => {
-                return Worded::NoRoom;
-            }
+            Seeded::NoRoom => return Worded::NoRoom,
         }
     }
     Worded::Done(m, u, n)
@@ -255,9 +253,7 @@ pub fn seed_words(
                 last = end;
                 k += 1;
             }
-            Encoded::NoRoom => {
-                return Encoded::NoRoom;
-            }
+            Encoded::NoRoom => return Encoded::NoRoom,
         }
     }
     Encoded::Done(m, u, w)

@@ -7,8 +7,7 @@
 // and every byte of the three runs, goes into a checksum, and with it the bytes behind the lent
 // parts, which must stay. The file `stdout` was made by `python3 tests/merges.py`, which does on
 // lists of numbers what document 01 says and shares no code with the library.
-ghost use mathlib.Core.Path.{_≡_};
-ghost use Prim.Native.Nat.{_*_, _≤_, _<_};
+ghost use Prim.Native.Nat.{_*_, _≤_};
 ghost use lib.ListN.{length};
 use libc::STDOUT_FILENO;
 
@@ -25,16 +24,10 @@ fn text(s: &[u8]) {
     io::write_all(STDOUT_FILENO, s);
 }
 
-fn wide(x: u8) -> u64
-    ensures { λ r. ⌜ (r ≡ x) × (r < 256) ⌝ }
-{
-    x as u64
-}
-
 fn hex_line(name: &[u8], s: &[u8]) {
     text(name);
     for i in 0..s.len() {
-        io::print_hex(STDOUT_FILENO, wide(s[i]), 2);
+        io::print_hex(STDOUT_FILENO, numbers::wide(s[i]), 2);
     }
     text(b"\n");
 }
@@ -43,7 +36,7 @@ fn hex_line(name: &[u8], s: &[u8]) {
 fn fold(start: u32, s: &[u8]) -> u32 {
     let mut sum = start;
     for i in 0..s.len() {
-        sum = (((sum as u64) + wide(s[i])) * 16777619 % 4294967296) as u32;
+        sum = (((sum as u64) + numbers::wide(s[i])) * 16777619 % 4294967296) as u32;
     }
     sum
 }

@@ -24,7 +24,6 @@
 // No table has over 48 units, 8 symbols or 1,024 bytes in its runs, no answer over 400 pieces or 1,024
 // piece bytes, and the file is no longer than 131,072 bytes: the rooms are made for that. What is beyond
 // a room is not read.
-ghost use mathlib.Core.Path.{_≡_};
 ghost use Prim.Native.Nat.{_<_, _≤_};
 ghost use lib.ListN.{length};
 use libc::STDIN_FILENO;
@@ -99,12 +98,6 @@ fn spell(room: &mut [u8], at: usize, s: &[u8]) -> usize
     end
 }
 
-fn wide(x: u8) -> u64
-    ensures { λ r. ⌜ (r ≡ x) × (r < 256) ⌝ }
-{
-    x as u64
-}
-
 // The checksum of some bytes behind those that come to `start`.
 fn fold(start: u64, s: &[u8]) -> u64
     requires { ⌜ start < 4294967296 ⌝ }
@@ -112,7 +105,7 @@ fn fold(start: u64, s: &[u8]) -> u64
 {
     let mut h = start;
     for i in 0..s.len() {
-        h = (h * 31 + wide(s[i])) % 4294967296;
+        h = (h * 31 + numbers::wide(s[i])) % 4294967296;
     }
     h
 }

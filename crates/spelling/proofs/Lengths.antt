@@ -3,14 +3,9 @@ use mathlib.Core.Path.{_≡_}
 use mathlib.Core.List.{List}
 use Prim.Native.Nat.{ℕ}
 use lib.ListN.{length, length-append}
-use Rattle.rule.specs.Spelling.{joined, measure}
+use Rattle.rule.specs.Spelling.{joined}
 use Rattle.spelling.specs.Lengths.{joinedLength}
 
--- what is measured is the length of the joined spelling; and it is what the length limit measures
 pub joined-long : (p l r : List ℕ) → length (joined p l r) ≡ joinedLength (length l) p r
 unfolding joined
 joined-long p l r = length-append l _
-
-pub joined-measure : (p l r : List ℕ) → measure (joined p l r) ≡ joinedLength (length l) p r
-unfolding measure
-joined-measure p l r = joined-long p l r

@@ -34,13 +34,6 @@ pub fn equal_three(prefix: &[u8], unit: &[u8], suffix: &[u8], piece: &[u8]) -> b
     equal_two(unit, suffix, &piece[m..])
 }
 
-// A byte as a number of 64 bits.
-fn wide(x: u8) -> u64
-    ensures { λ r. ⌜ (r ≡ x) × (r < 256) ⌝ }
-{
-    x as u64
-}
-
 // The hash of what was hashed to `before`, with s behind it.
 fn hash_on(before: u64, s: &[u8]) -> u64
     requires { ⌜ before < 4294967296 ⌝ }
@@ -49,7 +42,7 @@ fn hash_on(before: u64, s: &[u8]) -> u64
     let mut x = before;
     let mut i = 0;
     while i < s.len() {
-        x = (x * 16777619 + wide(s[i])) % 4294967296;
+        x = (x * 16777619 + numbers::wide(s[i])) % 4294967296;
         i += 1;
     }
     x

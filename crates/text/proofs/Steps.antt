@@ -6,7 +6,6 @@ use mathlib.Core.List.{List, [], _∷_, _++_}
 use Prim.Native.Nat.{ℕ, _+_, _-_, _≤_, _<_}
 use native.Mathlib.Omega.{arith}
 use lib.ListN.{length, take, drop}
-use borrow.Author.Tests.{eqb-true, eqb-false}
 use lib.Seq.{take-at, drop-at}
 use Rattle.runs.specs.Parts.{part}
 use Rattle.runs.proofs.Parts.{length-part, part-split, part-none}
@@ -24,15 +23,6 @@ unfolding seeded
 whole-units whole byCharacters w e = rw e
 
 module _ (d : Seeding) (number : ℕ) (k : byChars d ≡ chars number) where
-  -- of a number that the shape rules let pass, it is that number's seeding
-  pub setting-back : number ≤ 1 → settingOf d ≡ number
-  unfolding byChars settingOf
-  setting-back h = go d k
-    where
-      go : (e : Seeding) → byChars e ≡ chars number → settingOf e ≡ number
-      go Bytes t = let z = eqb-false number 1 (sym t) in omega arith
-      go Chars t = sym (eqb-true number 1 (sym t))
-
   pub seeded-units : (w : List ℕ) → seeded (byChars d) w ≡ units number w
   unfolding units
   seeded-units w = rw k

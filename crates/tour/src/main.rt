@@ -21,14 +21,10 @@ fn text(s: &[u8]) {
     io::write_all(STDOUT_FILENO, s);
 }
 
-fn wide(x: u8) -> u64 {
-    x as u64
-}
-
 // The bytes of a run, two hexadecimal digits each.
 fn bytes(s: &[u8]) {
     for i in 0..s.len() {
-        io::print_hex(STDOUT_FILENO, wide(s[i]), 2);
+        io::print_hex(STDOUT_FILENO, numbers::wide(s[i]), 2);
         text(b" ");
     }
 }

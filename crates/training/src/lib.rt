@@ -103,9 +103,7 @@ pub fn train_words(
     while (n as u64) < size {
         let c = choosing::next_merge(work, g, pieces, ends, n, u, prefix, limit, enough);
         match c {
-            Next::Nothing => {
-                return Trained::Done(n, u, k);
-            }
+            Next::Nothing => return Trained::Done(n, u, k),
             Next::Pair(h, left, right, times) => {
                 let a = apply(
                     work,
@@ -129,9 +127,7 @@ pub fn train_words(
                         n += 1;
                         k += 1;
                     }
-                    Applied::NoRoom => {
-                        return Trained::NoRoom;
-                    }
+                    Applied::NoRoom => return Trained::NoRoom,
                 }
             }
         }
