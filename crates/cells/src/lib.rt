@@ -41,6 +41,13 @@ pub fn copy_cells(room: &mut [u8], at: usize, from: usize, n: usize)
     runs::copy_within(room, at * 8, from * 8, n * 8);
 }
 
+// What a search round a ring comes to: what was looked for, the vacant slot where it would go, or neither.
+pub enum Found {
+    At(usize),
+    Vacant(usize),
+    Full,
+}
+
 // The slot after i, of `cap` slots in a ring.
 pub fn next(cap: usize, i: usize) -> usize
     requires { ⌜ i < cap ⌝ }

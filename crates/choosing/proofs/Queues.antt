@@ -1,5 +1,5 @@
 -- The queue of the lazy rule through a turn: an entry dropped, an entry corrected, what the head says. Assumes nothing.
-use mathlib.Core.Path.{_≡_, refl, sym, _∙_}
+use mathlib.Core.Path.{_≡_, sym, _∙_}
 use mathlib.Core.Bool.{true}
 use mathlib.Core.List.{List, [], _∷_, _++_}
 use mathlib.Core.Logic.{_⊎_, inl, inr}
@@ -25,15 +25,12 @@ use Rattle.waiting.specs.Waiting.{waits, queueOf}
 use Rattle.waiting.proofs.Queue.{queue-none, queue-pop, queue-cons}
 use Rattle.rule.proofs.Choosing.{within-limits}
 use Rattle.engine.specs.Engine.{Limits, Queued, Waiting}
+use Rattle.engine.proofs.Queues.{limits-of}
 
 -- A TASK, by its prefix and its limit; there is always one
 pub within-task : (t : Task) {prefix : List ℕ} {limit : ℕ} → Limits t prefix limit → (ps : List (List ℕ)) (a b : ℕ)
     → within t ps a b ≡ within (limits prefix limit) ps a b
 within-task t l ps a b = within-limits t _ _ (l .prefix-is) (l .limit-is) ps a b
-
-some-task : (prefix : List ℕ) (limit : ℕ) → Limits (limits prefix limit) prefix limit
-unfolding limits
-some-task prefix limit = record { prefix-is = refl; limit-is = refl }
 
 -- THE HEAD e of a queue
 module _ {prefix : List ℕ} {limit : ℕ} {ps : List (List ℕ)} {es : List Entry} {places k : ℕ} {e : Choice} {qu : List Choice}
@@ -42,7 +39,7 @@ module _ {prefix : List ℕ} {limit : ℕ} {ps : List (List ℕ)} {es : List Ent
   queued-turns = omega (arith, potential-drop es e qu, s .fuel)
 
   pub queued-known : (e .left < length ps) × (e .right < length ps)
-  queued-known = let f = s .inv (limits prefix limit) (some-task prefix limit) .fair .0 in (f .left-known, f .right-known)
+  queued-known = let f = s .inv (limits prefix limit) (limits-of prefix limit) .fair .0 in (f .left-known, f .right-known)
 
   -- dropped, if its pair is gone or over-long
   pub queued-drop : (within (limits prefix limit) ps (e .left) (e .right) ≡ true → 1 ≤ count (e .left) (e .right) es → ⊥)

@@ -26,7 +26,7 @@ use Rattle.waiting.proofs.Gained.{Older, fair-older}
 use Rattle.engine.specs.Engine.{Limits, Queued}
 
 -- THE TASK with a prefix and a limit: what is known of every such task is known
-limits-of : (prefix : List ℕ) (limit : ℕ) → Limits (limits prefix limit) prefix limit
+pub limits-of : (prefix : List ℕ) (limit : ℕ) → Limits (limits prefix limit) prefix limit
 unfolding limits
 limits-of prefix limit = record { prefix-is = refl; limit-is = refl }
 

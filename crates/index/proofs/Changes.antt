@@ -7,8 +7,8 @@ use Rattle.runs.specs.Parts.{nth}
 use Rattle.runs.proofs.Parts.{same-or-not}
 use Rattle.runs.proofs.Frames.{kept-then}
 use Rattle.index.specs.Index.{valueAt, slot, value, Index, Set, CanInsert, Inserted, CanErase, Erased, AtSlot, NewSlot, PutValue, PutKey}
-use Rattle.index.specs.declared.Found.{Found}
-use Rattle.index.specs.declared.Found.the-variants.{At, Vacant, Full}
+use Rattle.cells.specs.declared.Found.{Found}
+use Rattle.cells.specs.declared.Found.the-variants.{At, Vacant, Full}
 use Rattle.index.proofs.Slots.{value-at, value-vacant, value-full, slot-at, slot-vacant, slot-not-full, value-zero}
 
 -- WHAT IS FOUND

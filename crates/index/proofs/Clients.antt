@@ -9,8 +9,8 @@ use Rattle.runs.specs.Parts.{nth, laid, zeros, Kept}
 use Rattle.runs.proofs.Parts.{same-or-not, length-zeros, nth-zeros, length-laid, nth-laid}
 use Rattle.cells.proofs.Ring.{blanks-same, blanks-all, blanks-lt}
 use Rattle.index.specs.Index.{keyAt, valueAt, home, slot, value, vacant, idle, Index, Set, Empty, Inserted, SameIndex}
-use Rattle.index.specs.declared.Found.{Found}
-use Rattle.index.specs.declared.Found.the-variants.{At, Vacant, Full}
+use Rattle.cells.specs.declared.Found.{Found}
+use Rattle.cells.specs.declared.Found.the-variants.{At, Vacant, Full}
 use Rattle.index.proofs.Probes.{probe-same}
 use Rattle.index.proofs.Slots.{key-cell, value-cell, home-lt, value-at, value-vacant, value-full, value-none, slot-at, value-same}
 

@@ -6,8 +6,9 @@ use borrow.Author.Tests.{eq-eqb, ne-eqb}
 use Rattle.runs.proofs.Parts.{same-or-not}
 use Rattle.cells.specs.Ring.{after}
 use Rattle.cells.proofs.Ring.{after-lt, Ahead, ahead-none, ahead-next, ahead-all}
+use Rattle.cells.proofs.Search.{at-vacant, at-full, vacant-full, same-at, same-vacant}
 use Rattle.index.specs.Probe.{probe}
-use Rattle.index.specs.declared.Found.the-variants.{At, Vacant, Full}
+use Rattle.cells.specs.declared.Found.the-variants.{At, Vacant, Full}
 
 -- ONE PROBE, by what stands in the slot
 module _ (f : ℕ → ℕ) (cap k n i : ℕ) where
@@ -30,22 +31,6 @@ module _ (f : ℕ → ℕ) (cap k n i : ℕ) where
 pub probe-none : (f : ℕ → ℕ) (cap k i : ℕ) → probe f cap k 0 i ≡ Full
 unfolding probe
 probe-none f cap k i = refl
-
--- two answers are not one
-at-vacant : {P : Type 0} (i j : ℕ) → At i ≡ Vacant j → P
-at-vacant i j e = let z : _≡_ {A = ℕ} 0 1 = cc in absurd (omega arith)
-
-at-full : {P : Type 0} (i : ℕ) → At i ≡ Full → P
-at-full i e = let z : _≡_ {A = ℕ} 0 1 = cc in absurd (omega arith)
-
-vacant-full : {P : Type 0} (i : ℕ) → Vacant i ≡ Full → P
-vacant-full i e = let z : _≡_ {A = ℕ} 0 1 = cc in absurd (omega arith)
-
-same-at : (i j : ℕ) → At i ≡ At j → i ≡ j
-same-at i j e = cc
-
-same-vacant : (i j : ℕ) → Vacant i ≡ Vacant j → i ≡ j
-same-vacant i j e = cc
 
 -- WHAT A LOOKUP FINDS IS SO
 module _ (f : ℕ → ℕ) (cap k : ℕ) where

@@ -10,7 +10,7 @@ use Rattle.runs.proofs.Frames.{kept-put}
 use Rattle.cells.specs.Cells.{cells, Put}
 use Rattle.cells.proofs.Ring.{blanks-same, blanks-less}
 use Rattle.index.specs.Index.{keyAt, valueAt, home, slot, value, vacant, idle, Index, Set, AtSlot, NewSlot, PutValue, PutKey}
-use Rattle.index.specs.declared.Found.the-variants.{At}
+use Rattle.cells.specs.declared.Found.the-variants.{At}
 use Rattle.index.proofs.Probes.{probe-same, probe-still, probe-new}
 use Rattle.index.proofs.Slots.{home-lt, value-at, slot-at, slot-vacant, value-zero, value-same}
 

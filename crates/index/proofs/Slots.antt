@@ -11,8 +11,8 @@ use Rattle.cells.specs.Ring.{after}
 use Rattle.cells.proofs.Ring.{blanks-some}
 use Rattle.index.specs.Probe.{probe}
 use Rattle.index.specs.Index.{keyAt, valueAt, mix, row, home, slot, valueOf, value, vacant, Index}
-use Rattle.index.specs.declared.Found.{Found}
-use Rattle.index.specs.declared.Found.the-variants.{At, Vacant, Full}
+use Rattle.cells.specs.declared.Found.{Found}
+use Rattle.cells.specs.declared.Found.the-variants.{At, Vacant, Full}
 use Rattle.index.proofs.Probes.{probe-at, probe-vacant, probe-next, probe-none, probe-finds, probe-finds-vacant, never-full}
 
 -- WHERE A SLOT STANDS

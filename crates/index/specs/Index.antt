@@ -9,8 +9,8 @@ use lib.ListN.{length}
 use Rattle.runs.specs.Parts.{nth, Kept}
 use Rattle.cells.specs.Ring.{blanks}
 use Rattle.index.specs.Probe.{probe}
-use Rattle.index.specs.declared.Found.{Found}
-use Rattle.index.specs.declared.Found.the-variants.{At, Vacant, Full}
+use Rattle.cells.specs.declared.Found.{Found}
+use Rattle.cells.specs.declared.Found.the-variants.{At, Vacant, Full}
 
 -- the key and the value in the slot j
 unfoldable pub keyAt : ℕ → List ℕ → ℕ → ℕ

@@ -3,8 +3,8 @@ use mathlib.Core.Bool.{cond}
 use Prim.Native.Nat.{ℕ, zero, suc}
 use lib.Dec.{eqb}
 use Rattle.cells.specs.Ring.{after}
-use Rattle.index.specs.declared.Found.{Found}
-use Rattle.index.specs.declared.Found.the-variants.{At, Vacant, Full}
+use Rattle.cells.specs.declared.Found.{Found}
+use Rattle.cells.specs.declared.Found.the-variants.{At, Vacant, Full}
 
 -- what n probes for the key k find, from the slot i on
 unfoldable pub probe : (ℕ → ℕ) → ℕ → ℕ → ℕ → ℕ → Found

@@ -8,13 +8,7 @@ ghost use mathlib.Core.Path.{_≡_};
 ghost use Prim.Native.Nat.{_<_, _≤_};
 ghost use Rattle.cells.specs.Cells.{cells};
 ghost use Rattle.index.specs.Index.{mix, home, slot, value, Index, CanInsert, Inserted, CanErase, Erased, AtSlot, NewSlot, PutValue, PutKey};
-
-// What a lookup finds: the key's slot, the vacant slot where it would go, or neither.
-pub enum Found {
-    At(usize),
-    Vacant(usize),
-    Full,
-}
+use cells::Found;
 
 // A key's hash, by its two halves, but for its lowest six digits. The factors are fractions of 2^32
 // whose multiples and sums of multiples lie evenly between 0 and 1, so that keys with small halves

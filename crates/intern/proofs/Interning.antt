@@ -26,9 +26,10 @@ use Rattle.spells.specs.Hash.{hashOf}
 use Rattle.intern.specs.Pieces.{pieces}
 use Rattle.intern.specs.Seek.{numberIn, seek, vacancies}
 use Rattle.intern.specs.Intern.{spelt, look, Known, Pieces, CanAdd, Gave, Left}
-use Rattle.intern.specs.declared.Found.{Found}
-use Rattle.intern.specs.declared.Found.the-variants.{At, Vacant, Full}
-use Rattle.intern.proofs.Seek.{apart-at-vacant, same-at, seek-vacant, seek-at, seek-next, seek-none, seek-finds, seek-vacant-is, never-full, seek-test, seek-still, seek-new}
+use Rattle.cells.specs.declared.Found.{Found}
+use Rattle.cells.specs.declared.Found.the-variants.{At, Vacant, Full}
+use Rattle.cells.proofs.Search.{at-vacant, same-at}
+use Rattle.intern.proofs.Seek.{seek-vacant, seek-at, seek-next, seek-none, seek-finds, seek-vacant-is, never-full, seek-test, seek-still, seek-new}
 use Rattle.intern.proofs.Rooms.{piece-lent, kept-store, length-pieces, pieces-at, pieces-same, pieces-more, more-bytes, more-ends, more-old, more-new, more-held}
 use Rattle.intern.proofs.Lists.{has-at, intern-old, intern-new, number-new}
 
@@ -157,7 +158,7 @@ module _ (base cap n u : ℕ) (s : List ℕ) (j : ℕ) (rs xs ys : List ℕ) (c 
   absent k h e =
       let l = length-pieces xs ys n in
       let h′ : k < n = omega arith in
-      apart-at-vacant k j (sym (finds base cap n u s (cells rs) xs ys (c .ok) k h′ (sym (pieces-at xs ys n k h′) ∙ e)) ∙ c .none)
+      at-vacant k j (sym (finds base cap n u s (cells rs) xs ys (c .ok) k h′ (sym (pieces-at xs ys n k h′) ∙ e)) ∙ c .none)
 
   pub left : Left n s rs xs ys rs xs ys
   left = record { room = refl; bytes = refl; ends = refl; more = intern-new (pieces xs ys n) s absent }

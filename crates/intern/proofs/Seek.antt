@@ -9,9 +9,10 @@ use Rattle.runs.specs.Parts.{nth}
 use Rattle.runs.proofs.Parts.{same-or-not}
 use Rattle.cells.specs.Ring.{after}
 use Rattle.cells.proofs.Ring.{after-lt, Ahead, ahead-none, ahead-next, ahead-all}
+use Rattle.cells.proofs.Search.{at-vacant, at-full, vacant-full, same-at, same-vacant}
 use Rattle.intern.specs.Seek.{numberIn, seek}
-use Rattle.intern.specs.declared.Found.{Found}
-use Rattle.intern.specs.declared.Found.the-variants.{At, Vacant, Full}
+use Rattle.cells.specs.declared.Found.{Found}
+use Rattle.cells.specs.declared.Found.the-variants.{At, Vacant, Full}
 
 -- ONE PROBE, by what stands in the slot
 module _ (t : ℕ → Bool) (cs : List ℕ) (base cap n i : ℕ) where
@@ -70,28 +71,12 @@ pub record Hit (t : ℕ → Bool) (cs : List ℕ) (base cap k : ℕ) : Type 0 wh
   pub is : numberIn (nth cs (base + at)) ≡ k
   pub yes : t (nth cs (base + at)) ≡ true
 
--- two answers are not one
-pub apart-at-vacant : {P : Type 0} (k j : ℕ) → At k ≡ Vacant j → P
-apart-at-vacant k j e = let z : _≡_ {A = ℕ} 0 1 = cc in absurd (omega arith)
-
-apart-at-full : {P : Type 0} (k : ℕ) → At k ≡ Full → P
-apart-at-full k e = let z : _≡_ {A = ℕ} 0 1 = cc in absurd (omega arith)
-
-apart-vacant-full : {P : Type 0} (j : ℕ) → Vacant j ≡ Full → P
-apart-vacant-full j e = let z : _≡_ {A = ℕ} 0 1 = cc in absurd (omega arith)
-
-pub same-at : (k m : ℕ) → At k ≡ At m → k ≡ m
-same-at k m e = cc
-
-same-vacant : (k m : ℕ) → Vacant k ≡ Vacant m → k ≡ m
-same-vacant k m e = cc
-
 module _ (t : ℕ → Bool) (cs : List ℕ) (base cap : ℕ) where
   pub seek-finds : (n i k : ℕ) → i < cap → seek t cs base cap n i ≡ At k → Hit t cs base cap k
-  seek-finds zero i k h e = apart-at-full k (sym e ∙ probe-none t cs base cap i)
+  seek-finds zero i k h e = at-full k (sym e ∙ probe-none t cs base cap i)
   seek-finds (suc n) i k h e =
       cases t cs base cap n i
-      (λ z. apart-at-vacant k i (sym e ∙ probe-vacant t cs base cap n i z))
+      (λ z. at-vacant k i (sym e ∙ probe-vacant t cs base cap n i z))
       (λ z y.
       record {
         at = i;
@@ -104,11 +89,11 @@ module _ (t : ℕ → Bool) (cs : List ℕ) (base cap : ℕ) where
 
   -- what is said to be vacant is
   pub seek-vacant-is : (n i j : ℕ) → i < cap → seek t cs base cap n i ≡ Vacant j → (j < cap) × (nth cs (base + j) ≡ 0)
-  seek-vacant-is zero i j h e = apart-vacant-full j (sym e ∙ probe-none t cs base cap i)
+  seek-vacant-is zero i j h e = vacant-full j (sym e ∙ probe-none t cs base cap i)
   seek-vacant-is (suc n) i j h e =
       cases t cs base cap n i
       (λ z. let q : i ≡ j = same-vacant i j (sym (probe-vacant t cs base cap n i z) ∙ e) in rw (← q) (h, z))
-      (λ z y. apart-at-vacant (numberIn (nth cs (base + i))) j (sym (probe-at t cs base cap n i z y) ∙ e))
+      (λ z y. at-vacant (numberIn (nth cs (base + i))) j (sym (probe-at t cs base cap n i z y) ∙ e))
       (λ z y. seek-vacant-is n (after cap i) j (after-lt cap i h) (sym (probe-next t cs base cap n i z y) ∙ e))
 
   -- a lookup that has a vacant slot before it is not full
@@ -116,8 +101,8 @@ module _ (t : ℕ → Bool) (cs : List ℕ) (base cap : ℕ) where
   seek-not-full v k z zero i h a e = ahead-none cap v i h a
   seek-not-full v k z (suc n) i h a e =
       cases t cs base cap n i
-      (λ w. apart-vacant-full i (sym (probe-vacant t cs base cap n i w) ∙ e))
-      (λ w y. apart-at-full (numberIn (nth cs (base + i))) (sym (probe-at t cs base cap n i w y) ∙ e))
+      (λ w. vacant-full i (sym (probe-vacant t cs base cap n i w) ∙ e))
+      (λ w y. at-full (numberIn (nth cs (base + i))) (sym (probe-at t cs base cap n i w y) ∙ e))
       (λ w y. seek-not-full v k z n (after cap i) (after-lt cap i h) (ahead-next cap v n i k h (λ q. w (rw q z)) a) (sym (probe-next t cs base cap n i w y) ∙ e))
 
   pub never-full : (v i : ℕ) → v < cap → nth cs (base + v) ≡ 0 → i < cap → seek t cs base cap cap i ≡ Full → ⊥
@@ -141,10 +126,10 @@ module _ (t : ℕ → Bool) (cs ds : List ℕ) (base cap v : ℕ)
     (f : (j : ℕ) → j < cap → (j ≡ v → ⊥) → nth ds (base + j) ≡ nth cs (base + j)) where
   -- what was found before is found still
   pub seek-still : nth cs (base + v) ≡ 0 → (n i k : ℕ) → i < cap → seek t cs base cap n i ≡ At k → seek t ds base cap n i ≡ At k
-  seek-still z zero i k h e = apart-at-full k (sym e ∙ probe-none t cs base cap i)
+  seek-still z zero i k h e = at-full k (sym e ∙ probe-none t cs base cap i)
   seek-still z (suc n) i k h e =
       cases t cs base cap n i
-      (λ w. apart-at-vacant k i (sym e ∙ probe-vacant t cs base cap n i w))
+      (λ w. at-vacant k i (sym e ∙ probe-vacant t cs base cap n i w))
       (λ w y.
       let s = f i h (λ q. w (rw q z)) in
       probe-at t ds base cap n i (λ q. w (sym s ∙ q)) (ap t s ∙ y) ∙ ap (λ (x : ℕ). At (numberIn x)) s ∙ sym (probe-at t cs base cap n i w y) ∙ e)
@@ -155,14 +140,14 @@ module _ (t : ℕ → Bool) (cs ds : List ℕ) (base cap v : ℕ)
   -- and where the lookup found it vacant, what passes is found in it
   pub seek-new : (x k : ℕ) → nth ds (base + v) ≡ x → 0 < x → numberIn x ≡ k → t x ≡ true → (n i : ℕ) → i < cap → seek t cs base cap n i ≡ Vacant v
       → seek t ds base cap n i ≡ At k
-  seek-new x k d p q y zero i h e = apart-vacant-full v (sym e ∙ probe-none t cs base cap i)
+  seek-new x k d p q y zero i h e = vacant-full v (sym e ∙ probe-none t cs base cap i)
   seek-new x k d p q y (suc n) i h e =
       cases t cs base cap n i
       (λ w.
       let j : i ≡ v = same-vacant i v (sym (probe-vacant t cs base cap n i w) ∙ e) in
       let s : nth ds (base + i) ≡ x = rw j d in
       probe-at t ds base cap n i (λ z. omega arith) (ap t s ∙ y) ∙ ap (λ (m : ℕ). At (numberIn m)) s ∙ ap At q)
-      (λ w y′. apart-at-vacant (numberIn (nth cs (base + i))) v (sym (probe-at t cs base cap n i w y′) ∙ e))
+      (λ w y′. at-vacant (numberIn (nth cs (base + i))) v (sym (probe-at t cs base cap n i w y′) ∙ e))
       (λ w y′.
       let s = f i h (λ j. w (rw j (seek-vacant-is t cs base cap (suc n) i v h e .1))) in
       probe-next t ds base cap n i (λ z. w (sym s ∙ z)) (ap t s ∙ y′)

@@ -14,8 +14,8 @@ use Rattle.rule.specs.Layout.{pieceAt}
 use Rattle.spells.specs.Hash.{hashOf}
 use Rattle.intern.specs.Pieces.{pieces, Held}
 use Rattle.intern.specs.Seek.{numberIn, seek, vacancies}
-use Rattle.intern.specs.declared.Found.{Found}
-use Rattle.intern.specs.declared.Found.the-variants.{At, Vacant}
+use Rattle.cells.specs.declared.Found.{Found}
+use Rattle.cells.specs.declared.Found.the-variants.{At, Vacant}
 use Rattle.intern.specs.declared.Interned.{Interned}
 use Rattle.intern.specs.declared.Interned.the-variants as is
 

@@ -5,8 +5,8 @@ use Prim.Native.Nat.{ℕ, zero, suc, _+_, _-_, _%_}
 use lib.Dec.{eqb}
 use Rattle.runs.specs.Parts.{nth}
 use Rattle.cells.specs.Ring.{after, blanks}
-use Rattle.intern.specs.declared.Found.{Found}
-use Rattle.intern.specs.declared.Found.the-variants.{At, Vacant, Full}
+use Rattle.cells.specs.declared.Found.{Found}
+use Rattle.cells.specs.declared.Found.the-variants.{At, Vacant, Full}
 
 -- the number in a slot
 abbrev pub numberIn : ℕ → ℕ

@@ -13,6 +13,7 @@ ghost use lib.Dec.{leb};
 ghost use Rattle.cells.specs.Cells.{cells};
 ghost use Rattle.intern.specs.Pieces.{Held};
 ghost use Rattle.intern.specs.Intern.{spelt, look, Pieces, CanIntern, CanAdd, Answer};
+use cells::Found;
 
 // The end of a piece has 4 bytes.
 const LONGEST: usize = 4294967295;
@@ -40,13 +41,6 @@ fn is_spelled(
     let from = vocab::piece_start(ends, k);
     let to = vocab::piece_start(ends, k + 1);
     spells::equal_three(prefix, unit, suffix, &pieces[from..to])
-}
-
-// What a lookup finds: the number of the piece, the vacant slot where it would go, or neither.
-pub enum Found {
-    At(usize),
-    Vacant(usize),
-    Full,
 }
 
 // Which piece has this spelling. At most `cap` slots are looked at.
