@@ -14,6 +14,7 @@ use Rattle.pairs.proofs.Clients.{has-tied, counted-has}
 use Rattle.queue.specs.Heap.{Pushed}
 use Rattle.choosing.specs.Turns.{Corrected, Counts, Blocked, barred}
 
+-- THE SYMBOLS OF A PAIR
 pub left-is : (c : ℕ) → (c - 1) / 4294967296 ≡ leftOf c
 unfolding leftOf
 left-is c = refl

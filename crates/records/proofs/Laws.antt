@@ -153,6 +153,7 @@ module _ (base n r f v : ℕ) (cs ds : List ℕ) (p : CanPut base n r f cs) (d :
         is-put = d;
       }
 
+-- a field of a live record lies in the room
 pub live-within : (base n r f : ℕ) (cs : List ℕ) → Live base n r cs → f < 8 → Within base n r f cs
 live-within base n r f cs l h =
     record { room = l .ar .room; small = l .ar .small; low = field-low base cs r 0 (l .live); most = l .ar .low; few = h }

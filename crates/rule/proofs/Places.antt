@@ -41,6 +41,7 @@ first-least (true ∷ bs) j h = absurd (omega arith)
 first-least (false ∷ bs) zero h = refl
 first-least (false ∷ bs) (suc j) h = first-least bs j (omega arith)
 
+-- neither of two tests holds
 pub either-false : (a b : Bool) → (a || b) ≡ false → (a ≡ false) × (b ≡ false)
 either-false true b e = absurd (true≢false e)
 either-false false b e = (refl, e)

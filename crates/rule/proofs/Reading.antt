@@ -139,6 +139,7 @@ pieces-back t r long z n h =
     let e = w .pieceEnds .front in
     rw (w .pieces .front, ← length-pieceRecords (allPieces t), e) (layout-back (allPieces t) (fits t r (accepts t r z .0 .output) .small) n h)
 
+-- the first piece starts at 0
 pub start-first : (ends : List ℕ) (n : ℕ) → n ≡ 0 → 0 ≡ pieceStart ends n
 unfolding pieceStart
 start-first ends n e = rw e

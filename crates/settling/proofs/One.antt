@@ -27,8 +27,6 @@ pub cleared-is : (v x r : ℕ) → x ≡ marking touched false v → r ≡ marki
 unfolding cleared
 cleared-is v x r e f = rw e at f
 
--- A CANDIDATE AT THE END of what the queue holds: the order of the list says nothing
-
 -- WAITING
 
 module _ (q m v : ℕ) (e : Candidate) (b : Bool) (t : b ≡ marked gained v) where

@@ -36,6 +36,6 @@ pub key-order : (c d : ℕ) → c ≤ d → (leftOf c ≤ leftOf d) × (leftOf c
 unfolding leftOf rightOf
 key-order c d h = (omega arith, λ e. omega arith)
 
--- THE SYMBOLS OF A PAIR
+-- a pair's number is above 0
 pub pair-pos : (c : ℕ) → OfPair c → 0 < c
 pair-pos c p = rw (← (p .is)) (key-pos (leftOf c) (rightOf c))

@@ -24,6 +24,7 @@ use Rattle.trainer.specs.Train.{answered, TableDone, Left, RoomsDone}
 use Rattle.trainer.specs.declared.Answer.{Answer}
 use Rattle.trainer.specs.declared.Answer.the-variants as is
 
+-- what is written over the front of a run set to 0
 pub laid-filled : (run new : List ℕ) → length new ≤ length run → laid (zeros (length run)) 0 new ≡ filled run new
 unfolding laid filled
 laid-filled run new h =
