@@ -1,14 +1,11 @@
 -- `marks::is_blocked` meets its contract: its mask tells that mark of every byte.
+use borrow.Author.Rules.{rules}
 use mathlib.Core.Path.{refl}
 use native.Mathlib.Omega.{arith}
 use Rattle.marks.specs.Marks.{blocked, marked}
 use Rattle.marks.proofs.Masks.{each, mask_tells}
-use Rattle.marks.proofs.is_blocked.Statement.{statement}
-use Rattle.marks.proofs.is_blocked.Tie as tie
+use Rattle.marks.proofs.is_blocked.Goals as goal
 
-returns : tie.Need-returns
+pub returns : goal.returns
 unfolding each marked
 returns c = mask_tells blocked _ c.args.m refl (omega arith)
-
-pub is-blocked-spec : {M : Type 1} → statement M
-is-blocked-spec = tie.close (tie.spec returns)

@@ -1,14 +1,11 @@
 -- `marks::clear_touched` meets its contract: its mask clears that mark of every byte and no other digit.
+use borrow.Author.Rules.{rules}
 use mathlib.Core.Path.{refl}
 use native.Mathlib.Omega.{arith}
 use Rattle.marks.specs.Marks.{touched, marking}
 use Rattle.marks.proofs.Masks.{each, mask_clears}
-use Rattle.marks.proofs.clear_touched.Statement.{statement}
-use Rattle.marks.proofs.clear_touched.Tie as tie
+use Rattle.marks.proofs.clear_touched.Goals as goal
 
-returns : tie.Need-returns
+pub returns : goal.returns
 unfolding each marking
 returns c = mask_clears touched _ c.args.m refl (omega arith)
-
-pub clear-touched-spec : {M : Type 1} → statement M
-clear-touched-spec = tie.close (tie.spec returns)

@@ -1,14 +1,11 @@
 -- `marks::is_gained` meets its contract: its mask tells that mark of every byte.
+use borrow.Author.Rules.{rules}
 use mathlib.Core.Path.{refl}
 use native.Mathlib.Omega.{arith}
 use Rattle.marks.specs.Marks.{gained, marked}
 use Rattle.marks.proofs.Masks.{each, mask_tells}
-use Rattle.marks.proofs.is_gained.Statement.{statement}
-use Rattle.marks.proofs.is_gained.Tie as tie
+use Rattle.marks.proofs.is_gained.Goals as goal
 
-returns : tie.Need-returns
+pub returns : goal.returns
 unfolding each marked
 returns c = mask_tells gained _ c.args.m refl (omega arith)
-
-pub is-gained-spec : {M : Type 1} → statement M
-is-gained-spec = tie.close (tie.spec returns)

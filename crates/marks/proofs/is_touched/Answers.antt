@@ -1,14 +1,11 @@
 -- `marks::is_touched` meets its contract: its mask tells that mark of every byte.
+use borrow.Author.Rules.{rules}
 use mathlib.Core.Path.{refl}
 use native.Mathlib.Omega.{arith}
 use Rattle.marks.specs.Marks.{touched, marked}
 use Rattle.marks.proofs.Masks.{each, mask_tells}
-use Rattle.marks.proofs.is_touched.Statement.{statement}
-use Rattle.marks.proofs.is_touched.Tie as tie
+use Rattle.marks.proofs.is_touched.Goals as goal
 
-returns : tie.Need-returns
+pub returns : goal.returns
 unfolding each marked
 returns c = mask_tells touched _ c.args.m refl (omega arith)
-
-pub is-touched-spec : {M : Type 1} → statement M
-is-touched-spec = tie.close (tie.spec returns)

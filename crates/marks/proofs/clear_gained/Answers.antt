@@ -1,14 +1,11 @@
 -- `marks::clear_gained` meets its contract: its mask clears that mark of every byte and no other digit.
+use borrow.Author.Rules.{rules}
 use mathlib.Core.Path.{refl}
 use native.Mathlib.Omega.{arith}
 use Rattle.marks.specs.Marks.{gained, marking}
 use Rattle.marks.proofs.Masks.{each, mask_clears}
-use Rattle.marks.proofs.clear_gained.Statement.{statement}
-use Rattle.marks.proofs.clear_gained.Tie as tie
+use Rattle.marks.proofs.clear_gained.Goals as goal
 
-returns : tie.Need-returns
+pub returns : goal.returns
 unfolding each marking
 returns c = mask_clears gained _ c.args.m refl (omega arith)
-
-pub clear-gained-spec : {M : Type 1} → statement M
-clear-gained-spec = tie.close (tie.spec returns)

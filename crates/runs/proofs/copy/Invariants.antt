@@ -1,0 +1,12 @@
+-- `runs::copy` meets its contract: what is copied so far is laid over the run as it came.
+use mathlib.Core.Path.{◌≡◌}
+use Prim.Native.Nat.{◌-◌, ◌≤◌}
+use lib.ListN.{length}
+use Rattle.runs.specs.Parts.{laid, part}
+use Rattle.runs.proofs.copy.Given as goal
+
+abbrev pub invariant-loop-k : goal.invariant-loop-k
+invariant-loop-k l = (l.k ≤ l.n) × (length l.run ≡ length l.initial.run) × (l.run ≡ laid l.initial.run l.at (part l.from l.k l.other))
+
+abbrev pub decreases-loop-k : goal.decreases-loop-k
+decreases-loop-k l = l.n - l.k
