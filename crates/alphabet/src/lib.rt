@@ -12,7 +12,7 @@ ghost use Rattle.alphabet.specs.Seeds.{CanSeed, Seeds};
 use intern::Interned;
 
 // How many pieces and bytes there are now; or that a seed has no place.
-#[derive(Drop)]
+#[derive(Clone, Copy)]
 pub enum Seeded {
     Done(usize, usize),
     NoRoom,

@@ -42,7 +42,7 @@ pub fn copy_cells(room: &mut [u8], at: usize, from: usize, n: usize)
 }
 
 // What a search round a ring comes to: what was looked for, the vacant slot where it would go, or neither.
-#[derive(Drop)]
+#[derive(Clone, Copy)]
 pub enum Found {
     At(usize),
     Vacant(usize),

@@ -18,14 +18,14 @@ use pairs::Pairs;
 use queue::Candidate;
 
 // A pair with its count, taken out of the queue; or that none may be merged.
-#[derive(Drop)]
+#[derive(Clone, Copy)]
 pub enum Next {
     Pair(Engine, u32, u32, u64),
     Nothing,
 }
 
 // What a turn comes to: the run goes on, or there is an answer.
-#[derive(Drop)]
+#[derive(Clone, Copy)]
 enum Turn {
     On(Engine),
     Answer(Next),

@@ -121,7 +121,7 @@ fn write_lines(
 
 // The text that is written has so many bytes; or there are fewer merges than asked for, or the run
 // has no room for the text.
-#[derive(Drop)]
+#[derive(Clone, Copy)]
 pub enum Written {
     Text(usize),
     NoRoom,

@@ -62,7 +62,7 @@ fn side(there: bool, n: usize) -> usize
 
 // How many pieces and bytes there are now, and how many symbols a word has; or that a seed has no
 // place.
-#[derive(Drop)]
+#[derive(Clone, Copy)]
 pub enum Worded {
     Done(usize, usize, usize),
     NoRoom,
@@ -129,7 +129,7 @@ fn seed_word(
 }
 
 // How many pieces and bytes there are now, with the kept words; or that a seed has no place.
-#[derive(Drop)]
+#[derive(Clone, Copy)]
 pub enum Encoded {
     Done(usize, usize, WordSet),
     NoRoom,

@@ -14,7 +14,7 @@ use pairs::Pairs;
 use word::WordSet;
 
 // The queue has `waiting` candidates from the cell `queue` on, and at most `turns` entries are taken from it from here on.
-#[derive(Drop)]
+#[derive(Clone, Copy)]
 pub struct Engine {
     pub words: WordSet,
     pub pairs: Pairs,

@@ -8,7 +8,7 @@ ghost use Rattle.runs.specs.Parts.{nth};
 ghost use Rattle.error.specs.Answers.{train_verdict, piece_verdict, merge_error_verdict};
 
 // Why a table was not trained on.
-#[derive(Drop)]
+#[derive(Clone, Copy)]
 pub enum TrainError {
     // The runs do not make a table, or the seeding is neither Bytes nor Chars.
     BadShape,
@@ -77,7 +77,7 @@ impl TrainError {
 }
 
 // Why a piece was not handed out.
-#[derive(Drop)]
+#[derive(Clone, Copy)]
 pub enum PieceError {
     // The runs do not make a table of pieces.
     BadShape,
@@ -98,7 +98,7 @@ impl PieceError {
 }
 
 // Why symbols were not merged.
-#[derive(Drop)]
+#[derive(Clone, Copy)]
 pub enum MergeError {
     // The runs do not hold whole symbols and whole reports.
     BadShape,

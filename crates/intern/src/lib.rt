@@ -91,7 +91,7 @@ fn fits(left: usize, prefix: &[u8], unit: &[u8], suffix: &[u8]) -> bool
 
 // A spelling's number, with how many pieces and bytes there are now; or that it has no place: in the
 // ends room, in the piece room, or in the 4 bytes of an end.
-#[derive(Drop)]
+#[derive(Clone, Copy)]
 pub enum Interned {
     At(usize, usize, usize),
     NoRoom,

@@ -15,7 +15,7 @@ use step::Step;
 use word::WordSet;
 
 // The words as a merge left them, and how many pairs it has touched.
-#[derive(Drop)]
+#[derive(Clone, Copy)]
 pub struct Joined {
     pub words: WordSet,
     pub touched: usize,

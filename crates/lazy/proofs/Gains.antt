@@ -57,6 +57,7 @@ holds_it d x false e f m = f m
 
 pub holding_either : (x : ℕ) (c : Pair) (cs : List Pair) → In c (holding x cs) → (eqb c.left x || eqb c.right x) ≡ true
 unfolding holding
+holding_either x c [] h = elim h [ ]
 holding_either x c (d ∷ cs) h = holds_it d x (eqb d.left x || eqb d.right x) refl (holding_either x c cs) h
 
 -- AND ONLY SUCH PAIRS ARE ENTERED: one that holds the new symbol and occurs after the merge was raised

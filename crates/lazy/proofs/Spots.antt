@@ -56,11 +56,14 @@ counted_in p q (e ∷ es) h = go (count_in p q e.symbols) refl (λ k. counted_in
 -- POSITIONS HOLD NUMBERS IN USE
 spot-below : (n : ℕ) (l : List ℕ) → Under n l → (c : Pair) → In c (spots l) → (c.left < n) × (c.right < n)
 unfolding spots Under
+spot-below n [] b c h = elim h [ ]
+spot-below n (s ∷ []) b c h = elim h [ ]
 spot-below n (s ∷ t ∷ l) b c here = (b.0, b.1.0)
 spot-below n (s ∷ t ∷ l) b c (there h) = spot-below n (t ∷ l) b.1 c h
 
 pub spots-below : (n : ℕ) (es : List Entry) → AllUnder n es → (c : Pair) → In c (all_spots es) → (c.left < n) × (c.right < n)
 unfolding all_spots AllUnder
+spots-below n [] b c h = elim h [ ]
 spots-below n (e ∷ es) b c h = in_cases (spots e.symbols) h (spot-below n e.symbols b.0 c) (spots-below n es b.1 c)
 
 -- THE PAIRS THAT HOLD A SYMBOL are those of the list that hold it
@@ -71,6 +74,7 @@ keep_in false f k = there (f k)
 
 pub in_holding : (x : ℕ) (c : Pair) (cs : List Pair) → In c (holding x cs) → In c cs
 unfolding holding
+in_holding x c [] h = elim h [ ]
 in_holding x c (d ∷ cs) h = keep_in (eqb d.left x || eqb d.right x) (in_holding x c cs) h
 
 pub holding_in : (x p q : ℕ) → (eqb p x || eqb q x) ≡ true → {cs : List Pair} → In (pair p q) cs → In (pair p q) (holding x cs)

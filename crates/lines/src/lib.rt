@@ -216,7 +216,7 @@ fn has_no_room(words: usize, ends: usize, frequencies: usize) -> bool
 
 // What a text is: a table of so many words, which have so many bytes; or why it is none. Lines are
 // numbered from 1.
-#[derive(Drop)]
+#[derive(Clone, Copy)]
 pub enum Parsed {
     NoRoom,
     TooLong,

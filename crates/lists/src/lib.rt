@@ -12,14 +12,14 @@ ghost use Rattle.lists.specs.Lists.{kind_of, length_of, Loaded};
 use pairs::Pairs;
 
 // Which kind of list, and how many words. An enum holds no array: the short words stand beside it, the long list at the place.
-#[derive(Drop)]
+#[derive(Clone, Copy)]
 pub enum WordList {
     Short(u64),
     Spilled(u64, u64),
 }
 
 // Everything known of one pair.
-#[derive(Drop)]
+#[derive(Clone, Copy)]
 pub struct PairState {
     pub count: u64,
     pub marks: u8,

@@ -11,7 +11,7 @@ ghost use Rattle.merge.specs.Cells.{leaves, Looked, Rewritten, RewrittenWord};
 ghost use Rattle.merge.specs.Merging.{MergedWord, MergedAll};
 
 // What merging a word leaves of the set, and how many occurrences were rewritten.
-#[derive(Drop)]
+#[derive(Clone, Copy)]
 pub struct Merged {
     pub words: word::WordSet,
     pub rewrites: usize,

@@ -8,7 +8,7 @@ ghost use Rattle.runs.specs.Parts.{part};
 ghost use Rattle.order.specs.Order.{compared, same};
 
 // Where the first of two stands in byte order.
-#[derive(Drop)]
+#[derive(Clone, Copy)]
 pub enum Order {
     Below,
     Same,

@@ -13,7 +13,7 @@ ghost use Rattle.output.specs.Output.{PieceDone, MergeDone};
 const LONGEST: usize = 4294967295;
 
 // Where a new piece ends, or that it has no place.
-#[derive(Drop)]
+#[derive(Clone, Copy)]
 pub enum Appended {
     At(usize),
     NoRoom,

@@ -8,7 +8,7 @@ ghost use Rattle.pairs.specs.View.{record_of, made};
 ghost use Rattle.pairs.specs.Pairs.{Pairing, CanEnter, Entered, Asked, CanMake, Made, Removed};
 
 // The index has `cap` slots from the cell `base` on; there is place for `most` records.
-#[derive(Drop)]
+#[derive(Clone, Copy)]
 pub struct Pairs {
     pub base: usize,
     pub cap: usize,

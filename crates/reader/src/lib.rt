@@ -12,14 +12,14 @@ use vocab::Lookup;
 
 // A piece: a part of the lent bytes, empty on a refusal. The answer beside it tells a refusal from
 // an empty piece.
-#[derive(Drop)]
+#[derive(Clone, Copy)]
 pub struct Piece<'a> {
     pub part: &'a [u8],
     pub what: Lookup,
 }
 
 // The lent table, kept: the piece bytes and their ends.
-#[derive(Drop)]
+#[derive(Clone, Copy)]
 pub struct Reader<'a, 'b> {
     pub pieces: &'a [u8],
     pub ends: &'b [u8],

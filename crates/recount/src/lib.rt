@@ -10,7 +10,7 @@ ghost use Rattle.word.specs.Layout.{corpus, entry_at, words_in};
 ghost use Rattle.recount.specs.Recount.{pick, known, Ready, Weighed, Tried, Chosen};
 
 // A pair and its count. A count of 0 stands for no pair.
-#[derive(Drop)]
+#[derive(Clone, Copy)]
 pub struct Choice {
     pub left: u32,
     pub right: u32,

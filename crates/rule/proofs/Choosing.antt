@@ -96,10 +96,10 @@ unfolding best
 best-first c [] = at_least_refl c
 best-first c (d ∷ ds) = trans (best-first (cond (better d c) d c) ds) (tested d c).1
 
-best_all : (c : Choice) {x : Choice} {ds : List Choice} → In x ds → AtLeast (best c ds) x
+best_all : {x : Choice} (c : Choice) {ds : List Choice} → In x ds → AtLeast (best c ds) x
 unfolding best
-best_all c {x} (here {l = l}) = trans (best-first (cond (better x c) x c) l) (tested x c).0
-best_all c (there {d = d} i) = best_all (cond (better d c) d c) i
+best_all {x} c (here {l = l}) = trans (best-first (cond (better x c) x c) l) (tested x c).0
+best_all {x} c (there {d = d} i) = best_all (cond (better d c) d c) i
 
 best_in : (c : Choice) (ds : List Choice) → (best c ds ≡ c) ⊎ In (best c ds) ds
 unfolding best

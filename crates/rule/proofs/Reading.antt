@@ -1,5 +1,5 @@
 -- What is written is read back: numbers, ends, pieces.
-use mathlib.Core.Path.{◌≡◌, refl, sym, ap}
+use mathlib.Core.Path.{◌≡◌, refl, sym, ap, subst}
 use mathlib.Core.Bool.{true}
 use mathlib.Core.List.{List, [], ◌∷◌, ◌++◌, map, flat_map, append_assoc, append-nil}
 use Prim.Native.Nat.{ℕ, zero, suc, ◌+◌, ◌-◌, ◌*◌, ◌/◌, ◌%◌, ◌^◌, ◌≤◌, ◌<◌}
@@ -81,7 +81,8 @@ unfolding rise_to ends_from total
 ends_rise from [] = eq-eqb from (from + 0) (omega arith)
 ends_rise from (p ∷ ps) =
     let e : from + (length p + total (map length ps)) ≡ (from + length p) + total (map length ps) = omega arith in
-    rw (le-leb from (from + length p) (omega arith), e) (ends_rise (from + length p) ps)
+    rw (le-leb from (from + length p) (omega arith))
+    (subst (λ (n : ℕ). rise_to n (from + length p) (ends_from (from + length p) ps) ≡ true) (sym e) (ends_rise (from + length p) ps))
 
 pub ends_under : (from m : ℕ) (ps : List (List ℕ)) → from + total (map length ps) < m → Under m (ends_from from ps)
 unfolding ends_from total Under

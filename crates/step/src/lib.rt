@@ -11,7 +11,7 @@ ghost use Rattle.step.specs.Step.{keeps, step_by};
 // What a step does: it writes `symbol` and has read `took` symbols, 1 or 2. Its reports, in this
 // order: where `behind`, (previous,a) -1 and (previous,x) +1; where `ahead`, (b,next) -1 and
 // (x,next) +1.
-#[derive(Drop)]
+#[derive(Clone, Copy)]
 pub struct Step {
     pub symbol: u32,
     pub took: usize,

@@ -16,7 +16,7 @@ ghost use Rattle.symbols.specs.Merging.{Rewrote, Merging};
 use error::MergeError;
 
 // What merging answers. Where it is refused, nothing is written.
-#[derive(Drop)]
+#[derive(Clone, Copy)]
 pub enum Merge {
     Done {
         rewrites: u64,

@@ -175,7 +175,7 @@ fn heavier(weight: u64, frequency: u64, units: u64) -> u64
 
 // What a pass over the words finds: their weight, up to the number that is too heavy, and their
 // units.
-#[derive(Drop)]
+#[derive(Clone, Copy)]
 struct Weighed {
     weight: u64,
     units: u64,
@@ -212,7 +212,7 @@ fn room_needed(units: u64, symbols: usize) -> u64
 }
 
 // What the first seven rows come to: the units of all words, or why the table is refused.
-#[derive(Drop)]
+#[derive(Clone, Copy)]
 pub enum Judged {
     Fine { units: u64 },
     Refused(TrainError),

@@ -13,7 +13,7 @@ ghost use Rattle.rule.specs.Table.{chars};
 ghost use Rattle.text.specs.Units.{by_chars, Next, Counted};
 
 // What the units of a word are: its bytes, or the characters of a well-formed word.
-#[derive(Drop)]
+#[derive(Clone, Copy)]
 pub enum Seeding {
     Bytes,
     Chars,

@@ -19,7 +19,7 @@ use word::WordSet;
 
 // What training comes to: how many pieces, alphabet pieces and merges there are, or why a table is
 // refused.
-#[derive(Drop)]
+#[derive(Clone, Copy)]
 pub enum Answer {
     Done {
         pieces: u64,

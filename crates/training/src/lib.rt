@@ -27,7 +27,7 @@ fn floor(least: u64) -> u64
 }
 
 // Where the pieces end and the engine is now; or that the merge has no place in an output room.
-#[derive(Drop)]
+#[derive(Clone, Copy)]
 pub enum Applied {
     Done(usize, Engine),
     NoRoom,
@@ -69,7 +69,7 @@ fn apply(
 }
 
 // How many pieces, bytes and merges there are; or that the full answer exceeds an output room.
-#[derive(Drop)]
+#[derive(Clone, Copy)]
 pub enum Trained {
     Done(usize, usize, usize),
     NoRoom,

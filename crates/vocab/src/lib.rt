@@ -65,7 +65,7 @@ pub fn is_shaped(bytes: &[u8], ends: &[u8]) -> bool
 }
 
 // Where a piece stands, or why there is none.
-#[derive(Drop)]
+#[derive(Clone, Copy)]
 pub enum Lookup {
     At { start: usize, length: usize },
     Refused(PieceError),

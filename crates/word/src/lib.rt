@@ -8,7 +8,7 @@ ghost use Rattle.word.specs.Layout.{symbol_in, corpus, entry_at, Words, Placed, 
 
 // `count` words whose places stand from the cell `starts` on, and who lie from the cell `low` up to
 // `top`, with gaps between them where they were rewritten. `live` is how many symbols they have.
-#[derive(Drop)]
+#[derive(Clone, Copy)]
 pub struct WordSet {
     pub starts: usize,
     pub count: usize,
@@ -18,7 +18,7 @@ pub struct WordSet {
 }
 
 // The cell of a word's first symbol, and how many symbols it has.
-#[derive(Drop)]
+#[derive(Clone, Copy)]
 pub struct Span {
     pub start: usize,
     pub length: usize,
