@@ -293,6 +293,13 @@ module _ (base n r c : ℕ) (cs es fs ds : List ℕ) (p : CanDrop base n r cs) (
       ∙ ap (λ (l : List ℕ). field base l r 0) d₁
       ∙ field-put base cs r 0 0 (live_low base n r cs p.at) (omega (arith, p.at.ar.room, p.at.low))
 
+  -- what was free stays in the list, behind it
+  dr_rest : Chain base (taken base ds) ds (field base ds r 1) c
+  dr_rest =
+      rw (dr_taken, dr_other r 1 (omega arith) (λ _ u. omega arith) ∙ p.link, dr_was)
+      (chain_same base (taken base cs) (taken base cs) (free base cs) cs ds (omega arith)
+      (λ s h z k g w. dr_other s g (omega arith) (λ u _. not_free base n r s cs p.at u z)) (free base cs) (nth cs (base + 1)) (omega arith) p.at.ar.chain)
+
   dr_chain : Chain base (taken base ds) ds (nth ds (base + 1)) (free base ds)
   unfolding Chain
   dr_chain =
@@ -304,9 +311,7 @@ module _ (base n r c : ℕ) (cs es fs ds : List ℕ) (p : CanDrop base n r cs) (
           idle = dr_here;
           depth = dr_other r 2 (omega arith) (λ _ u. omega arith) ∙ p.depth ∙ rw (← dr_was, add-one c);
         },
-        rw (dr_taken, dr_other r 1 (omega arith) (λ _ u. omega arith) ∙ p.link, dr_was)
-            (chain_same base (taken base cs) (taken base cs) (free base cs) cs ds (omega arith)
-            (λ s h z k g w. dr_other s g (omega arith) (λ u _. not_free base n r s cs p.at u z)) (free base cs) (nth cs (base + 1)) (omega arith) p.at.ar.chain),
+        dr_rest,
       )
 
   pub dropped : Released base n r cs ds

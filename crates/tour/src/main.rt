@@ -6,8 +6,9 @@
 
 ghost use Rattle.std.specs.Prelude.{◌+◌, ◌≤◌};
 
-use libc::STDOUT_FILENO;
 use order::Order;
+use std::io;
+use std::io::Print;
 
 const VALUES: [u64; 8] = [
     0,
@@ -20,61 +21,56 @@ const VALUES: [u64; 8] = [
     18446744073709551615,
 ];
 
-fn text(s: &[u8]) {
-    io::write_all(STDOUT_FILENO, s);
-}
-
 // The bytes of a run, two hexadecimal digits each.
-fn bytes(s: &[u8]) {
-    for i in 0..s.len() {
-        io::print_hex(STDOUT_FILENO, numbers::wide(s[i]), 2);
-        text(b" ");
+fn bytes(rt: &impl Print, s: &[u8]) -> io::Result<()> {
+    for b in s {
+        print!(rt; "{b:02x} ")?;
     }
+    Ok(())
 }
 
 // A number in 8 bytes of a run that held EE before, and as it is read again.
-fn stored(v: u64) {
+fn stored(rt: &impl Print, v: u64) -> io::Result<()> {
     let mut run = [0xEEu8; 12];
     numbers::store8(&mut run, 3, v);
-    bytes(&run);
-    text(b"= ");
-    io::print_decimal(STDOUT_FILENO, numbers::load8(&run, 3));
-    text(b"\n");
+    bytes(rt, &run)?;
+    println!(rt; "= {}", numbers::load8(&run, 3))
 }
 
-fn stored_all() {
+fn stored_all(rt: &impl Print) -> io::Result<()> {
     for i in 0..8 {
-        stored(VALUES[i]);
+        stored(rt, VALUES[i])?;
     }
+    Ok(())
 }
 
 // A part of eight letters copied over another part of them.
-fn moved(at: usize, from: usize, n: usize)
+fn moved(rt: &impl Print, at: usize, from: usize, n: usize) -> io::Result<()>
     requires { (at + n ≤ 8) × (from + n ≤ 8) }
 {
     let mut run = [97u8, 98, 99, 100, 101, 102, 103, 104];
     runs::copy_within(&mut run, at, from, n);
-    text(&run);
-    text(b"\n");
+    rt.write_all(&run)?;
+    rt.write_all(b"\n")
 }
 
 // Two words and how they stand.
-fn ordered(a: &[u8], b: &[u8]) {
-    text(a);
+fn ordered(rt: &impl Print, a: &[u8], b: &[u8]) -> io::Result<()> {
+    rt.write_all(a)?;
     match order::compare(a, b) {
-        Order::Below => text(b" < "),
-        Order::Same => text(b" = "),
-        Order::Above => text(b" > "),
+        Order::Below => rt.write_all(b" < ")?,
+        Order::Same => rt.write_all(b" = ")?,
+        Order::Above => rt.write_all(b" > ")?,
     }
-    text(b);
-    text(b"\n");
+    rt.write_all(b)?;
+    rt.write_all(b"\n")
 }
 
-fn main() {
-    stored_all();
-    moved(2, 0, 5);
-    moved(0, 2, 5);
-    ordered(b"ab", b"abc");
-    ordered(b"b", b"abc");
-    ordered(b"abc", b"abc");
+fn main(rt: HostRuntime) -> io::Result<()> {
+    stored_all(&rt)?;
+    moved(&rt, 2, 0, 5)?;
+    moved(&rt, 0, 2, 5)?;
+    ordered(&rt, b"ab", b"abc")?;
+    ordered(&rt, b"b", b"abc")?;
+    ordered(&rt, b"abc", b"abc")
 }

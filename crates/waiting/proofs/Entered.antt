@@ -66,11 +66,11 @@ module _ (σ : ℕ → State) where
       gainers_case (λ l. length l ≤ suc (length ks)) c ks (λ _. omega arith) (λ _. omega arith)
 
   -- THE PAIRS OF THE CANDIDATES are those of the keys that gain
-  gainer_first : (c : Pair) (d : ℕ) (ks : List ℕ) {cs : List Pair} → Gains σ d → (In c cs → Gainer σ (d ∷ ks) c) → In c (pair (left_of d) (right_of d) ∷ cs)
+  gainer_first : (d : ℕ) (c : Pair) (ks : List ℕ) {cs : List Pair} → Gains σ d → (In c cs → Gainer σ (d ∷ ks) c) → In c (pair (left_of d) (right_of d) ∷ cs)
       → Gainer σ (d ∷ ks) c
   unfolding nth
-  gainer_first c d ks g f here = record { at = 0; low = omega arith; gains = g; is = refl }
-  gainer_first c d ks g f (there m) = f m
+  gainer_first d c ks g f here = record { at = 0; low = omega arith; gains = g; is = refl }
+  gainer_first d c ks g f (there m) = f m
 
   gainer_later : (c : Pair) (d : ℕ) (ks : List ℕ) → Gainer σ ks c → Gainer σ (d ∷ ks) c
   unfolding nth
@@ -78,11 +78,12 @@ module _ (σ : ℕ → State) where
 
   pub gainer_of : (c : Pair) (ks : List ℕ) → In c (map pair_of (gainers σ ks)) → Gainer σ ks c
   unfolding gainers
+  gainer_of c [] m = elim m [ ]
   gainer_of c (d ∷ ks) m = go (gainer_of c ks) m
     where
       go : (In c (map pair_of (gainers σ ks)) → Gainer σ ks c) → In c (map pair_of (gainers σ (d ∷ ks))) → Gainer σ (d ∷ ks) c
       go f = gainers_case (λ l. In c (map pair_of l) → Gainer σ (d ∷ ks) c) d ks
-          (λ g k. gainer_first c d ks g (λ i. gainer_later c d ks (f i)) k) (λ _ k. gainer_later c d ks (f k))
+          (λ g k. gainer_first d c ks g (λ i. gainer_later c d ks (f i)) k) (λ _ k. gainer_later c d ks (f k))
 
   pub gainer_in : (ks : List ℕ) (j : ℕ) → j < length ks → Gains σ (nth ks j) → In (pair (left_of (nth ks j)) (right_of (nth ks j))) (map pair_of (gainers σ ks))
   unfolding nth

@@ -1,0 +1,12 @@
+-- `alphabet::intern_plain` meets its contract: the spelling between two empty parts is itself.
+use borrow.Author.Rules.{rules}
+use Rattle.alphabet.proofs.Going.{plain, one_done, one_out}
+use Rattle.alphabet.proofs.intern_plain.Goals as goal
+
+ruleset laws = (plain, one_done, one_out, rules)
+
+pub returns-in-At : goal.returns-in-At
+returns-in-At c = search laws
+
+pub returns-in-NoRoom : goal.returns-in-NoRoom
+returns-in-NoRoom c = search laws

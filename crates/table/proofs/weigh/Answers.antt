@@ -1,0 +1,35 @@
+use borrow.Author.Rules.{rules}
+use native.Mathlib.Omega.{arith}
+use Prim.Native.Nat.{◌-◌}
+use Rattle.vocab.proofs.Shaped.{risen_up, risen_under, risen_rest}
+use Rattle.table.proofs.Order.{shaped-first}
+use Rattle.table.proofs.Weighing.{weight_start, units_start, weight_turn, units-turn, weighed_end}
+use Rattle.table.proofs.weigh.Goals as goal
+
+ruleset laws = (shaped-first, risen_up, risen_under, risen_rest, weight_start, units_start, weight_turn, units-turn, weighed_end, rules)
+
+pub loop-n-init : goal.loop-n-init
+loop-n-init c = search laws
+
+pub units_in-u-requires : goal.units_in-u-requires
+units_in-u-requires c = search laws
+
+pub loop-n-preserved : goal.loop-n-preserved
+loop-n-preserved c = let l = c.loop-n in
+    let e = c.end_at-end in
+    let f = c.frequency_at-f in
+    let u = c.units_in-u in
+    let h = c.heavier-weight in (
+      omega arith,
+      omega arith,
+      omega arith,
+      omega arith,
+      omega arith,
+      risen_rest _ _ l.n _ l.invariant.5 _ (omega arith) e.ensures,
+      weight_turn _ _ _ _ l.n _ _ (omega arith) e.ensures u.ensures _ _ (omega arith) f.ensures _ _ _ h.ensures l.invariant.6,
+      units-turn _ _ _ _ l.n _ _ (omega arith) e.ensures u.ensures _ _ l.invariant.7,
+    )
+
+pub returns : goal.returns
+returns c = let l = c.loop-n in
+    weighed_end _ _ _ _ l.last l.n _ _ l.invariant.6 l.invariant.7 (omega arith) (omega arith) (omega arith) (omega arith)
