@@ -7,7 +7,7 @@ use native.Mathlib.Omega.{arith}
 use lib.ListN.{length}
 use Rattle.runs.specs.Parts.{nth, put, Kept}
 use Rattle.runs.proofs.Frames.{kept-put}
-use Rattle.rule.specs.Rewriting.{rewrite, rewrites}
+use Rattle.rule.specs.Rewriting.{rewrite}
 use Rattle.rule.specs.Seeding.{Entry}
 use Rattle.rule.proofs.Rewriting.{length-rewrite}
 use Rattle.word.specs.Layout.{SameIn, Words, words_in}

@@ -11,7 +11,7 @@ use lib.ListN.{length, drop}
 use borrow.Author.Tests.{lt-ltb}
 use Rattle.runs.specs.Parts.{nth}
 use Rattle.runs.proofs.Parts.{below_or_not}
-use Rattle.rule.specs.Rewriting.{is_pair, hit, before, after}
+use Rattle.rule.specs.Rewriting.{is_pair, before, after}
 use Rattle.rule.specs.Sums.{Under, raised}
 use Rattle.rule.proofs.Rewriting.{pair_true}
 use Rattle.step.specs.Step.{rewrites_to, step_by, step_of, standing, reports_of}

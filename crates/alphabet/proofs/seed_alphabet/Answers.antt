@@ -1,7 +1,5 @@
 use borrow.Author.Rules.{rules}
 use native.Mathlib.Omega.{arith}
-use mathlib.Core.Bool.{true}
-use Prim.Native.Nat.{◌-◌}
 use Rattle.vocab.proofs.Shaped.{shaped_rises, risen_up, risen_under, risen_rest}
 use Rattle.alphabet.proofs.Going.{part_start, going_can, part_next, part-out, part_end}
 use Rattle.alphabet.proofs.seed_alphabet.Goals as goal

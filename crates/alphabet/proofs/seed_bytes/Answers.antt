@@ -1,5 +1,4 @@
 use borrow.Author.Rules.{rules}
-use Prim.Native.Nat.{◌-◌}
 use Rattle.alphabet.proofs.Going.{going_start, going_can, byte_next, byte_out, byte_end}
 use Rattle.alphabet.proofs.seed_bytes.Goals as goal
 

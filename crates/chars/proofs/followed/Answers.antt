@@ -1,5 +1,4 @@
 use borrow.Author.Rules.{rules}
-use Prim.Native.Nat.{◌-◌}
 use Rattle.chars.proofs.Places.{follow_none, follow_start, follow_second, follow-out, follow-turn, follow_tail, follow_end}
 use Rattle.chars.proofs.followed.Goals as goal
 

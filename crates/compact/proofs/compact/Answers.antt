@@ -1,5 +1,4 @@
 use borrow.Author.Rules.{rules}
-use Prim.Native.Nat.{◌-◌}
 use Rattle.compact.proofs.Sliding.{sliding_start, sliding_low, sliding_down, sliding_turn, sliding_end}
 use Rattle.compact.proofs.compact.Goals as goal
 

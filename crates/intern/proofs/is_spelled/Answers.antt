@@ -1,6 +1,5 @@
 -- `intern::is_spelled` meets its contract: the hash, then the bytes between the two ends.
 use borrow.Author.Rules.{rules}
-use Prim.Native.Nat.{◌-◌}
 use Rattle.intern.proofs.Interning.{spelt_other, spelt_piece}
 use Rattle.intern.proofs.is_spelled.Goals as goal
 

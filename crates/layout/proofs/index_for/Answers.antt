@@ -1,5 +1,4 @@
 use borrow.Author.Rules.{rules}
-use Prim.Native.Nat.{◌-◌}
 use Rattle.layout.proofs.Fits.{doubling_start, doubling_more, doubled}
 use Rattle.layout.proofs.index_for.Goals as goal
 

@@ -1,5 +1,4 @@
 -- `marks::clear_blocked` meets its contract: its mask clears that mark of every byte and no other digit.
-use borrow.Author.Rules.{rules}
 use mathlib.Core.Path.{refl}
 use native.Mathlib.Omega.{arith}
 use Rattle.marks.specs.Marks.{blocked, marking}

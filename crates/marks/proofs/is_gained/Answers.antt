@@ -1,5 +1,4 @@
 -- `marks::is_gained` meets its contract: its mask tells that mark of every byte.
-use borrow.Author.Rules.{rules}
 use mathlib.Core.Path.{refl}
 use native.Mathlib.Omega.{arith}
 use Rattle.marks.specs.Marks.{gained, marked}

@@ -1,5 +1,4 @@
 use borrow.Author.Rules.{rules}
-use Prim.Native.Nat.{◌-◌}
 use Rattle.merge.proofs.Merging.{merging_start, merging_turn, merging_end}
 use Rattle.merge.proofs.merge_all.Goals as goal
 

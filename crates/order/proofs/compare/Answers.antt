@@ -1,5 +1,4 @@
 use borrow.Author.Rules.{rules}
-use Prim.Native.Nat.{◌-◌}
 use Rattle.order.proofs.Comparing.{compare_start, compare_turn, compare_below, compare_above, compare_longer, compare_shorter, compare_end}
 use Rattle.order.proofs.compare.Goals as goal
 

@@ -1,5 +1,4 @@
 use borrow.Author.Rules.{rules}
-use Prim.Native.Nat.{◌-◌}
 use Rattle.order.proofs.Comparing.{equal_lengths, equal_start, equal_turn, equal_out, equal_end}
 use Rattle.order.proofs.equal.Goals as goal
 

@@ -1,8 +1,4 @@
 use borrow.Author.Rules.{rules}
-use mathlib.Core.Path.{◌≡◌}
-use Prim.Native.Nat.{◌-◌, ◌≤◌}
-use lib.ListN.{length}
-use Rattle.runs.specs.Parts.{laid, zeros}
 use Rattle.runs.proofs.Loops.{clear_start, clear_turn, clear_end}
 use Rattle.runs.proofs.clear.Goals as goal
 

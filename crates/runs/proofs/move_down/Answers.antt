@@ -1,8 +1,4 @@
 use borrow.Author.Rules.{rules}
-use mathlib.Core.Path.{◌≡◌}
-use Prim.Native.Nat.{◌-◌, ◌≤◌}
-use lib.ListN.{length}
-use Rattle.runs.specs.Parts.{laid, part}
 use Rattle.runs.proofs.Loops.{copy_start, down_turn, copy_end}
 use Rattle.runs.proofs.move_down.Goals as goal
 

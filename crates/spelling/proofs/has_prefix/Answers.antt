@@ -1,5 +1,4 @@
 use borrow.Author.Rules.{rules}
-use Prim.Native.Nat.{◌-◌}
 use Rattle.spelling.proofs.Prefixes.{leads_shorter, leads_start, leads-turn, leads-out, leads_end}
 use Rattle.spelling.proofs.has_prefix.Goals as goal
 

@@ -1,5 +1,4 @@
 use borrow.Author.Rules.{rules}
-use Prim.Native.Nat.{◌-◌}
 use Rattle.spells.proofs.Hash.{hash_start, hash_turn, hash_end}
 use Rattle.spells.proofs.hash_on.Goals as goal
 

@@ -1,5 +1,4 @@
 use borrow.Author.Rules.{rules}
-use Prim.Native.Nat.{◌-◌}
 use Rattle.symbols.proofs.Passes.{count_start, count-turn, count_end}
 use Rattle.symbols.proofs.count_reports.Goals as goal
 

@@ -1,5 +1,4 @@
 use borrow.Author.Rules.{rules}
-use Prim.Native.Nat.{◌-◌}
 use Rattle.symbols.proofs.Passes.{going_start, going_room, going_store, going_turn, going_end}
 use Rattle.symbols.proofs.rewrite.Goals as goal
 

@@ -1,5 +1,4 @@
 use borrow.Author.Rules.{rules}
-use Prim.Native.Nat.{◌-◌}
 use Rattle.vocab.proofs.Shaped.{risen_up, risen_under, risen_rest}
 use Rattle.table.proofs.Order.{shaped_second, low_start, low_out, low_turn, low_end}
 use Rattle.table.proofs.first_low.Goals as goal

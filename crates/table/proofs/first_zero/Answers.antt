@@ -1,5 +1,4 @@
 use borrow.Author.Rules.{rules}
-use Prim.Native.Nat.{◌-◌}
 use Rattle.table.proofs.Rows.{zero_start, zero_out, zero_turn, zero_end}
 use Rattle.table.proofs.first_zero.Goals as goal
 

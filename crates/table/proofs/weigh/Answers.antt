@@ -1,6 +1,5 @@
 use borrow.Author.Rules.{rules}
 use native.Mathlib.Omega.{arith}
-use Prim.Native.Nat.{◌-◌}
 use Rattle.vocab.proofs.Shaped.{risen_up, risen_under, risen_rest}
 use Rattle.table.proofs.Order.{shaped-first}
 use Rattle.table.proofs.Weighing.{weight_start, units_start, weight_turn, units-turn, weighed_end}

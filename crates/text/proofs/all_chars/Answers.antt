@@ -1,6 +1,5 @@
 use borrow.Author.Rules.{rules}
 use native.Mathlib.Omega.{arith}
-use Prim.Native.Nat.{◌-◌}
 use Rattle.chars.proofs.Places.{len_small}
 use Rattle.text.proofs.Loops.{well_start, well_out, well_turn, well_end, char_fits}
 use Rattle.text.proofs.all_chars.Goals as goal

@@ -1,6 +1,5 @@
 use borrow.Author.Rules.{rules}
 use native.Mathlib.Omega.{arith}
-use Prim.Native.Nat.{◌-◌}
 use Rattle.chars.proofs.Places.{len_small}
 use Rattle.text.proofs.Loops.{well_start, well_turn, char_fits, count_start, count-out, count-turn, count_end}
 use Rattle.text.proofs.count_chars.Goals as goal

@@ -1,5 +1,4 @@
 use borrow.Author.Rules.{rules}
-use Prim.Native.Nat.{◌-◌}
 use Rattle.vocab.proofs.Shaped.{rise_start, rise_turn, rise_out, rise_end}
 use Rattle.vocab.proofs.rises.Goals as goal
 

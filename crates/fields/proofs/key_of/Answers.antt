@@ -1,0 +1,9 @@
+-- `fields::key_of` meets its contract: the key is a field of a record that was taken.
+use borrow.Author.Rules.{rules}
+use Rattle.fields.proofs.Fields.{can_get}
+use Rattle.fields.proofs.key_of.Goals as goal
+
+ruleset laws = (can_get, rules)
+
+pub get_field-requires : goal.get_field-requires
+get_field-requires c = search laws
