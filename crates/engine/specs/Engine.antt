@@ -11,7 +11,7 @@ use Rattle.queue.specs.declared.Candidate.{Candidate}
 use Rattle.queue.specs.Holding.{In, Holds}
 use Rattle.word.specs.Layout.{Words, words_in}
 use Rattle.word.specs.declared.WordSet.{WordSet}
-use Rattle.states.specs.State.{most, key, OfPair}
+use Rattle.states.specs.State.{most, OfPair}
 use Rattle.states.specs.Tracking.{Tracks, Calm, Weighed}
 use Rattle.pairs.specs.View.{behind, state, made}
 use Rattle.pairs.specs.Pairs.{Pairing, Empty}

@@ -8,7 +8,7 @@ use borrow.Author.Tests.{eq-eqb, ne_eqb}
 use Rattle.runs.specs.Parts.{Kept}
 use Rattle.runs.proofs.Parts.{same_or_not, part_none}
 use Rattle.runs.proofs.Frames.{kept_then, kept_wide}
-use Rattle.index.specs.Index.{idle, CanInsert, Inserted, SameIndex}
+use Rattle.index.specs.Index.{CanInsert, Inserted, SameIndex}
 use Rattle.index.proofs.Clients.{index-kept}
 use Rattle.records.specs.Records.{field, SameArena}
 use Rattle.arena.specs.Claims.{CanClaim, Alloc}

@@ -14,7 +14,7 @@ use Rattle.runs.proofs.Frames.{kept_none, kept_then, kept_wide, kept-laid, laid_
 use Rattle.numbers.specs.Little.{spell}
 use Rattle.numbers.proofs.Little.{length-spell}
 use Rattle.rule.specs.Shapes.{spell_all}
-use Rattle.rule.specs.Training.{Merge, count}
+use Rattle.rule.specs.Training.{Merge}
 use Rattle.rule.specs.Layout.{piece_bytes, merge_bytes, saving_bytes}
 use Rattle.rule.proofs.Lengths.{length-merge_bytes, length-saving_bytes}
 use Rattle.intern.specs.Pieces.{pieces, Held}
@@ -29,7 +29,6 @@ use Rattle.output.specs.declared.Appended.{Appended}
 use Rattle.output.specs.declared.Appended.TheVariants as appended
 use Rattle.training.specs.Training.{ApplyDone, with_merges, Written, TooMuch}
 use Rattle.training.specs.declared.Applied.TheVariants as applied
-use Rattle.training.specs.declared.Trained.TheVariants as trained
 
 -- RUNS AND BYTES
 

@@ -2,7 +2,6 @@ use mathlib.Core.Path.{ap}
 use mathlib.Core.Bool.{not}
 use borrow.Author.Rules.{rules}
 use native.Mathlib.Omega.{arith}
-use Prim.Native.Nat.{◌-◌}
 use Rattle.codes.proofs.Lengths.{text_short, text_start, text_out, text_turn, text_end}
 use Rattle.codes.proofs.fits.Goals as goal
 

@@ -1,5 +1,4 @@
 use borrow.Author.Rules.{rules}
-use Prim.Native.Nat.{◌-◌}
 use Rattle.codes.proofs.Laying.{going_start, going_can, going_turn, going_end}
 use Rattle.codes.proofs.write_lines.Goals as goal
 

@@ -1,5 +1,4 @@
 use borrow.Author.Rules.{rules}
-use Prim.Native.Nat.{◌-◌}
 use Rattle.counting.proofs.Counts.{sum_start, sum-turn, sum_end}
 use Rattle.counting.proofs.count_pair.Goals as goal
 

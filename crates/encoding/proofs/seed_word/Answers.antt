@@ -1,6 +1,5 @@
 use borrow.Author.Rules.{rules}
 use native.Mathlib.Omega.{arith}
-use Prim.Native.Nat.{◌-◌}
 use Rattle.encoding.proofs.Wording.{wording_start, wording_can, wording_set, place_room, place_next, place-out, place_end}
 use Rattle.encoding.proofs.seed_word.Goals as goal
 

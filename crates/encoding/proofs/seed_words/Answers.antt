@@ -1,7 +1,6 @@
 use borrow.Author.Rules.{rules}
 use native.Mathlib.Omega.{arith}
-use mathlib.Core.Bool.{true}
-use Prim.Native.Nat.{◌-◌, ◌/◌, ◌<◌}
+use Prim.Native.Nat.{◌/◌, ◌<◌}
 use lib.ListN.{length}
 use Rattle.vocab.proofs.Shaped.{shaped_rises, risen_up, risen_under, risen_rest}
 use Rattle.encoding.proofs.Words.{words_start, words_end, words_can, words_room, words-place, words-out, words_next}

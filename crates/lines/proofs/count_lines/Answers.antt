@@ -1,5 +1,4 @@
 use borrow.Author.Rules.{rules}
-use Prim.Native.Nat.{◌-◌}
 use Rattle.lines.proofs.Cuts.{count_start, count-turn, count_end}
 use Rattle.lines.proofs.count_lines.Goals as goal
 

@@ -1,5 +1,4 @@
 use borrow.Author.Rules.{rules}
-use Prim.Native.Nat.{◌-◌}
 use Rattle.lines.proofs.Scans.{digits_low, digits_high, digits_over, digits-turn}
 use Rattle.lines.proofs.digits_end.Goals as goal
 

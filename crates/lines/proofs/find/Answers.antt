@@ -1,5 +1,4 @@
 use borrow.Author.Rules.{rules}
-use Prim.Native.Nat.{◌-◌}
 use Rattle.lines.proofs.Scans.{find_out, find_turn, find_over}
 use Rattle.lines.proofs.find.Goals as goal
 

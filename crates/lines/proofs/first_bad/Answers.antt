@@ -1,5 +1,4 @@
 use borrow.Author.Rules.{rules}
-use Prim.Native.Nat.{◌-◌}
 use Rattle.lines.proofs.Cuts.{bad_start, bad_out, bad_turn, bad_end}
 use Rattle.lines.proofs.first_bad.Goals as goal
 

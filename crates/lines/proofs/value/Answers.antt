@@ -1,6 +1,5 @@
 use borrow.Author.Rules.{rules}
 use native.Mathlib.Omega.{arith}
-use Prim.Native.Nat.{◌-◌}
 use Rattle.lines.proofs.Scans.{value_low, value_high, value_over, value-turn, fits_small, fits_turn}
 use Rattle.lines.proofs.value.Goals as goal
 

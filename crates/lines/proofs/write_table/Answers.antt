@@ -1,5 +1,4 @@
 use borrow.Author.Rules.{rules}
-use Prim.Native.Nat.{◌-◌}
 use Rattle.lines.proofs.Writing.{going_start, going_can, going_turn, going_end}
 use Rattle.lines.proofs.write_table.Goals as goal
 

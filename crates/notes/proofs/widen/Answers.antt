@@ -20,12 +20,12 @@ pub get_field-place-requires : goal.get_field-place-requires
 get_field-place-requires c = search laws
 
 pub overflow_add-at-then-n-size-4 : goal.overflow_add-at-then-n-size-4
-overflow_add-at-then-n-size-4 c = 
+overflow_add-at-then-n-size-4 c =
     let g = can_grow _ _ _ _ _ _ c.requires c.if-n-eq4.false c.get_field-size.ensures _ c.if-n-size.true c.get_field-place.ensures in
     omega (arith, g.source, c.requires.can.has.ok.ix.small)
 
 pub overflow_mul-n : goal.overflow_mul-n
-overflow_mul-n c = 
+overflow_mul-n c =
     let g = can_grow _ _ _ _ _ _ c.requires c.if-n-eq4.false c.get_field-size.ensures _ c.if-n-size.true c.get_field-place.ensures in
     omega (arith, g.space, c.requires.can.has.ok.room, c.requires.can.has.ok.ix.small)
 

@@ -1,5 +1,4 @@
 use borrow.Author.Rules.{rules}
-use Rattle.intern.specs.Pieces as rooms
 use Rattle.recount.proofs.Scanning.{under_here, under_next, under_rest, under_start, scan_start, scan_turn, scan_end}
 use Rattle.recount.proofs.best_word.Goals as goal
 

@@ -1,6 +1,4 @@
 use borrow.Author.Rules.{rules}
-use Prim.Native.Nat.{◌-◌}
-use Rattle.intern.specs.Pieces as rooms
 use Rattle.recount.proofs.Scanning.{nothing-weighed, choose_start, choose-turn, choose_end}
 use Rattle.recount.proofs.next_merge.Goals as goal
 
