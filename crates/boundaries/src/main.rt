@@ -7,17 +7,14 @@
 // decoder says of the same words, so the run compares the two.
 #![tactic(auto)]
 
-ghost use Rattle.std.specs.Prelude.{◌≤◌, ◌<◌, length};
+ghost use Rattle.std.specs.Prelude.{◌≤◌, ◌<◌, IfOk, length};
 
-use libc::STDOUT_FILENO;
+use std::io;
+use std::io::{Print, Read};
 use text::Seeding;
 
-fn write(s: &[u8]) {
-    io::write_all(STDOUT_FILENO, s);
-}
-
-fn write_number(n: usize) {
-    io::print_decimal(STDOUT_FILENO, n as u64);
+fn write_number(rt: &impl Print, n: usize) -> io::Result<()> {
+    print!(rt; "{n}")
 }
 
 // The value of a hexadecimal digit, 0 of any other byte.
@@ -51,46 +48,46 @@ fn spell(room: &mut [u8], at: usize, line: &[u8]) -> usize
 }
 
 // Writes the lengths of the units from `from` to `to`, and whether they sum up to the whole.
-fn lengths(s: &[u8], from: usize, to: usize, whole: bool)
+fn lengths(rt: &impl Print, s: &[u8], from: usize, to: usize, whole: bool) -> io::Result<()>
     requires { (from ≤ to) × (to ≤ length s.now) }
 {
     let mut at = from;
     let mut sum = 0;
     while at < to {
         let end = text::next_unit(s, at, to, whole);
-        write_number(end - at);
+        write_number(rt, end - at)?;
         sum += end - at;
         at = end;
     }
     if sum == to - from {
-        write(b"=");
+        rt.write_all(b"=")
     } else {
-        write(b"!");
+        rt.write_all(b"!")
     }
 }
 
 // Writes the line of a word.
-fn report(s: &[u8], from: usize, to: usize)
+fn report(rt: &impl Print, s: &[u8], from: usize, to: usize) -> io::Result<()>
     requires { (from ≤ to) × (to ≤ length s.now) }
 {
     let whole = text::whole(s, from, to, Seeding::from_number(1));
     if whole {
-        write(b"c");
+        rt.write_all(b"c")?;
     } else {
-        write(b"b");
+        rt.write_all(b"b")?;
     }
-    write_number(text::count_units(s, from, to, Seeding::from_number(1)));
-    write(b":");
-    lengths(s, from, to, whole);
-    write_number(text::count_units(s, from, to, Seeding::from_number(0)));
-    write(b"\n");
+    write_number(rt, text::count_units(s, from, to, Seeding::from_number(1)))?;
+    rt.write_all(b":")?;
+    lengths(rt, s, from, to, whole)?;
+    write_number(rt, text::count_units(s, from, to, Seeding::from_number(0)))?;
+    rt.write_all(b"\n")
 }
 
 // A word stands in a room of tails: what looked past its end would take them for its own.
-fn word(line: &[u8]) {
+fn word(rt: &impl Print, line: &[u8]) -> io::Result<()> {
     let mut room = [0x80u8; 64];
     let to = spell(&mut room, 8, line);
-    report(&room, 8, to);
+    report(rt, &room, 8, to)
 }
 
 // Where the line at `at` ends: at its LF, or with the input.
@@ -108,21 +105,39 @@ fn line_end(s: &[u8], at: usize) -> usize
     end
 }
 
-fn run(s: &[u8]) {
+fn run(rt: &impl Print, s: &[u8]) -> io::Result<()> {
     let mut at = 0;
     let mut n = 0;
     while at < s.len() {
         let end = line_end(s, at);
-        word(&s[at..end]);
+        word(rt, &s[at..end])?;
         at = end + 1;
         n += 1;
     }
-    write_number(n);
-    write(b"\n");
+    write_number(rt, n)?;
+    rt.write_all(b"\n")
 }
 
-fn main() {
+// Reads until the room is full or the input ends, and answers how many bytes came.
+fn read_full<R: Read>(input: &mut R, room: &mut [u8]) -> io::Result<usize>
+    ensures { IfOk result (λ n. n ≤ length room.new) }
+{
+    let mut n = 0;
+    for _ in 0..u64::MAX {
+        if n == room.len() {
+            break;
+        }
+        let more = input.read(&mut room[n..])?;
+        if more == 0 {
+            break;
+        }
+        n += more;
+    }
+    Ok(n)
+}
+
+fn main(rt: HostRuntime) -> io::Result<()> {
     let mut input = [0u8; 131072];
-    let n = io::read_full(0, &mut input);
-    run(&input[..n]);
+    let n = read_full(&mut rt.reader(), &mut input)?;
+    run(&rt, &input[..n])
 }
