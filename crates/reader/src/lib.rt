@@ -1,8 +1,8 @@
 // The reader as a value: it keeps the lent table, and hands out a piece as the caller's own bytes
 // with the answer beside it.
 //
-// A struct that holds a slice has its functions proved by hand, so they are few and thin: all the
-// work is done by `vocab`, whose `look` and `piece` serve every other caller.
+// Its functions are few and thin: all the work is done by `vocab`, whose `look` and `piece` serve
+// every other caller.
 #![tactic(auto)]
 
 ghost use Rattle.std.specs.Prelude.{◌≡◌};
