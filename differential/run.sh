@@ -2,8 +2,8 @@
 # Compares the library with the Rust original, both run: `differential/run.sh [ARGUMENTS]` hands its
 # arguments to the program (differential/src/bin/compare.rs: --whole, --cases N, --seed S, --only GROUP).
 # The original's files are compiled unchanged from SPLINTR_SRC (default ../shared/docs/src), outside of
-# this repository; the library is libdoor.a (`rt staticlib door`) in RINDOVESH_LIB_DIR or
-# target/staticlib. Exit status 3: there is no original here.
+# this repository; the library is libdoor.a (tests/library.sh builds it) in RINDOVESH_LIB_DIR
+# or target/staticlib. Exit status 3: there is no original here.
 set -e
 cd "$(dirname "$0")/.."
 SPLINTR_SRC=${SPLINTR_SRC:-../shared/docs/src}

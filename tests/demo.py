@@ -1,5 +1,5 @@
 #!/usr/bin/env python3
-"""Runs the demonstration program on many texts: python3 tests/demo.py target/bin/demo
+"""Runs the demonstration program on many texts: python3 tests/demo.py crates/demo/out/demo
 
 Document 01's section on the program and the sections it rests on, done plainly on Python lists: every
 count is taken anew before each merge. Nothing here is taken from the library. Of each text in `CASES`

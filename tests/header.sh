@@ -1,7 +1,7 @@
 #!/bin/sh
 # Compiles each example in the comments of include/rindovesh.h against the library and runs it; then
 # the header alone, as C and as C++. An example is the indented text behind a line that begins with
-# "Example". The library is libdoor.a (`rt staticlib door`), in RINDOVESH_LIB_DIR or target/staticlib.
+# "Example". The library is libdoor.a (tests/library.sh builds it), in RINDOVESH_LIB_DIR or target/staticlib.
 # CC compiles for x86-64, and RUN stands before a program that is run (.ci/run).
 set -e
 cd "$(dirname "$0")/.."

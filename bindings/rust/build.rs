@@ -1,5 +1,5 @@
-//! Finds the proved library, `libdoor.a` (`rt staticlib door`): in RINDOVESH_LIB_DIR, or else where
-//! the repository's build puts it.
+//! Finds the proved library, `libdoor.a`: in RINDOVESH_LIB_DIR, or else where the repository's
+//! build (tests/library.sh) puts it.
 
 use std::env;
 use std::path::PathBuf;
@@ -15,7 +15,7 @@ fn main() {
     println!("cargo:rerun-if-changed={}", library.display());
     if !library.is_file() {
         panic!(
-            "there is no {}: build it with `rt staticlib door`, or name its folder in RINDOVESH_LIB_DIR",
+            "there is no {}: build it with tests/library.sh, or name its folder in RINDOVESH_LIB_DIR",
             library.display()
         );
     }
