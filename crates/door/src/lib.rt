@@ -1,8 +1,8 @@
-// The C door: what other languages call, and nothing else. `include/rindovesh.h` declares it.
+// The door: what other languages call, and nothing else. The crate `door_c` exports these functions
+// to C under their own names, and `include/rindovesh.h` declares them.
 //
-// A slice is two C parameters, a pointer and a length in bytes. An exported function has no
-// `requires`: for every input its contract says the number returned and the bytes of every lent run
-// at exit.
+// None has a `requires`: for every input its contract says the number returned and the bytes of
+// every lent run at exit.
 #![tactic(auto)]
 
 ghost use Rattle.std.specs.Prelude.{◌≡◌, [], ◌∷◌, ◌≤◌, length};
@@ -28,8 +28,7 @@ fn give(answer: &mut [u8], first: u64, second: u64, third: u64)
 }
 
 // Trains a vocabulary on a word table.
-#[unsafe(no_mangle)]
-pub extern "C" fn rindovesh_train(
+pub fn rindovesh_train(
     words: &[u8],
     word_ends: &[u8],
     frequencies: &[u8],
@@ -91,13 +90,7 @@ pub extern "C" fn rindovesh_train(
 }
 
 // Looks a piece up by its number.
-#[unsafe(no_mangle)]
-pub extern "C" fn rindovesh_piece(
-    pieces: &[u8],
-    piece_ends: &[u8],
-    number: u64,
-    answer: &mut [u8],
-) -> u64
+pub fn rindovesh_piece(pieces: &[u8], piece_ends: &[u8], number: u64, answer: &mut [u8]) -> u64
     ensures { read result answer.new ≡ piece_outcome pieces.now piece_ends.now number answer.old }
 {
     if answer.len() < 64 {
@@ -118,8 +111,7 @@ pub extern "C" fn rindovesh_piece(
 
 // Rewrites the pair (left,right) to `joined` in a word, and reports how the counts of the other pairs
 // change.
-#[unsafe(no_mangle)]
-pub extern "C" fn rindovesh_merge_symbols(
+pub fn rindovesh_merge_symbols(
     symbols: &mut [u8],
     left: u32,
     right: u32,

@@ -1,0 +1,15 @@
+-- `door::rindovesh_piece` meets its contract: each way through it is one case of document 01's outcome.
+use borrow.Author.Rules.{rules}
+use Rattle.door.proofs.Training.{piece_short, piece_found, piece_refused}
+use Rattle.door.proofs.rindovesh_piece.Goals as goal
+
+ruleset laws = (piece_short, piece_found, piece_refused, rules)
+
+pub returns-then-answer-lt64 : goal.returns-then-answer-lt64
+returns-then-answer-lt64 c = search laws
+
+pub returns-in-At : goal.returns-in-At
+returns-in-At c = search laws
+
+pub returns-in-Refused : goal.returns-in-Refused
+returns-in-Refused c = search laws
