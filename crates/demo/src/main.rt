@@ -5,11 +5,12 @@
 // are none: `too long`, `bad line N` or `refused: N`.
 #![tactic(auto)]
 
-ghost use Rattle.std.specs.Prelude.{◌≤◌, ◌/◌, length};
+ghost use Rattle.std.specs.Prelude.{◌≤◌, ◌/◌, IfOk, length};
 
 use codes::Written;
-use libc::{STDIN_FILENO, STDOUT_FILENO};
 use lines::Parsed;
+use std::io;
+use std::io::{Print, Read};
 use trainer::Answer;
 
 // Cuts a well-formed word into its characters.
@@ -24,15 +25,10 @@ const MINIMUM: u64 = 2;
 // No piece is too long.
 const NO_LIMIT: u64 = 0xFFFF_FFFF_FFFF_FFFF;
 
-fn text(s: &[u8]) {
-    io::write_all(STDOUT_FILENO, s);
-}
-
 // A line of some words and a number.
-fn line(s: &[u8], n: u64) {
-    text(s);
-    io::print_decimal(STDOUT_FILENO, n);
-    text(b"\n");
+fn line(rt: &impl Print, s: &[u8], n: u64) -> io::Result<()> {
+    rt.write_all(s)?;
+    println!(rt; "{n}")
 }
 
 // A number that is to be no more than a room has. Every count that training gives is.
@@ -54,25 +50,38 @@ fn used(ends: &[u8], count: usize) -> u64
 
 // Writes the codes of the merges in these runs. A line has no more bytes than the piece that it makes
 // and 2, so that the room is enough for 64 of them.
-fn write(pieces: &[u8], ends: &[u8], merges: &[u8], many: usize) {
+fn write(
+    rt: &impl Print,
+    pieces: &[u8],
+    ends: &[u8],
+    merges: &[u8],
+    many: usize,
+) -> io::Result<()> {
     let mut out = [0u8; 4096];
     let r = codes::write_codes(&mut out, pieces, ends, merges, many);
     match r {
-        Written::Text(n) => text(&out[0..within(n as u64, 4096)]),
-        Written::NoRoom => {}
+        Written::Text(n) => rt.write_all(&out[0..within(n as u64, 4096)]),
+        Written::NoRoom => Ok(()),
     }
 }
 
 // Writes the codes of an answer that is at the front of the rooms.
-fn answer(pieces: &[u8], ends: &[u8], merges: &[u8], count: u64, many: u64) {
+fn answer(
+    rt: &impl Print,
+    pieces: &[u8],
+    ends: &[u8],
+    merges: &[u8],
+    count: u64,
+    many: u64,
+) -> io::Result<()> {
     let n = within(count, ends.len() / 4);
     let m = within(many, merges.len() / 8);
     let bytes = within(used(ends, n), pieces.len());
-    write(&pieces[0..bytes], &ends[0..n * 4], &merges[0..m * 8], m);
+    write(rt, &pieces[0..bytes], &ends[0..n * 4], &merges[0..m * 8], m)
 }
 
 // Trains on a table, and writes the codes or the number of the refusal.
-fn train(words: &[u8], word_ends: &[u8], frequencies: &[u8]) {
+fn train(rt: &impl Print, words: &[u8], word_ends: &[u8], frequencies: &[u8]) -> io::Result<()> {
     let mut work = [0u8; 57344];
     let mut pieces = [0u8; 2048];
     let mut ends = [0u8; 256];
@@ -101,36 +110,55 @@ fn train(words: &[u8], word_ends: &[u8], frequencies: &[u8]) {
             pieces: count,
             alphabet: _,
             merges: many,
-        } => answer(&pieces, &ends, &merges, count, many),
-        Answer::Refused(why) => line(b"refused: ", why.number()),
+        } => answer(rt, &pieces, &ends, &merges, count, many),
+        Answer::Refused(why) => line(rt, b"refused: ", why.number()),
     }
 }
 
 // Reads a text as a table and trains on it, or writes what is wrong with the text. The rooms are those
 // of a longest text, so that none is too short.
-fn run(s: &[u8]) {
+fn run(rt: &impl Print, s: &[u8]) -> io::Result<()> {
     let mut words = [0u8; 1024];
     let mut ends = [0u8; 256];
     let mut frequencies = [0u8; 512];
     let r = lines::parse(s, &mut words, &mut ends, &mut frequencies);
     match r {
-        Parsed::NoRoom => {}
-        Parsed::TooLong => text(b"too long\n"),
-        Parsed::BadLine(n) => line(b"bad line ", n as u64),
+        Parsed::NoRoom => Ok(()),
+        Parsed::TooLong => rt.write_all(b"too long\n"),
+        Parsed::BadLine(n) => line(rt, b"bad line ", n as u64),
         Parsed::Table { count, bytes } => {
             let n = within(count as u64, 64);
             train(
+                rt,
                 &words[0..within(bytes as u64, 1024)],
                 &ends[0..n * 4],
                 &frequencies[0..n * 8],
-            );
+            )
         }
     }
 }
 
+// Reads until the room is full or the input ends, and answers how many bytes came.
+fn read_full<R: Read>(input: &mut R, room: &mut [u8]) -> io::Result<usize>
+    ensures { IfOk result (λ n. n ≤ length room.new) }
+{
+    let mut n = 0;
+    for _ in 0..u64::MAX {
+        if n == room.len() {
+            break;
+        }
+        let more = input.read(&mut room[n..])?;
+        if more == 0 {
+            break;
+        }
+        n += more;
+    }
+    Ok(n)
+}
+
 // One byte over the limit is enough to know that a text is too long.
-fn main() {
+fn main(rt: HostRuntime) -> io::Result<()> {
     let mut input = [0u8; 1025];
-    let n = io::read_full(STDIN_FILENO, &mut input);
-    run(&input[..n]);
+    let n = read_full(&mut rt.reader(), &mut input)?;
+    run(&rt, &input[..n])
 }

@@ -11,7 +11,8 @@
 
 ghost use Rattle.std.specs.Prelude.{◌*◌, ◌≤◌, length};
 
-use libc::STDOUT_FILENO;
+use std::io;
+use std::io::Print;
 
 // The symbols of the words, `a`, `b` and 0, and a fourth that occurs in none.
 const SYMBOLS: [u32; 4] = [97, 98, 0, 0xFF02_0100];
@@ -22,16 +23,12 @@ const WORDS: [u16; 7] = [1, 3, 9, 27, 81, 243, 729];
 // What a checksum is before its first byte.
 const START: u32 = 2166136261;
 
-fn text(s: &[u8]) {
-    io::write_all(STDOUT_FILENO, s);
-}
-
-fn hex_line(name: &[u8], s: &[u8]) {
-    text(name);
-    for i in 0..s.len() {
-        io::print_hex(STDOUT_FILENO, numbers::wide(s[i]), 2);
+fn hex_line(rt: &impl Print, name: &[u8], s: &[u8]) -> io::Result<()> {
+    rt.write_all(name)?;
+    for b in s {
+        print!(rt; "{b:02x}")?;
     }
-    text(b"\n");
+    rt.write_all(b"\n")
 }
 
 // The checksum of some bytes behind those that come to `start`.
@@ -44,21 +41,30 @@ fn fold(start: u32, s: &[u8]) -> u32 {
 }
 
 // An outcome, written in full or gone into a checksum.
-fn tell(start: u32, full: bool, r: u64, symbols: &[u8], changes: &[u8], answer: &[u8]) -> u32 {
+fn tell(
+    rt: &impl Print,
+    start: u32,
+    full: bool,
+    r: u64,
+    symbols: &[u8],
+    changes: &[u8],
+    answer: &[u8],
+) -> io::Result<u32> {
     if full {
-        io::print_decimal(STDOUT_FILENO, r);
-        hex_line(b"\nsymbols ", symbols);
-        hex_line(b"changes ", changes);
-        hex_line(b"answer ", answer);
-        return start;
+        print!(rt; "{r}")?;
+        hex_line(rt, b"\nsymbols ", symbols)?;
+        hex_line(rt, b"changes ", changes)?;
+        hex_line(rt, b"answer ", answer)?;
+        return Ok(start);
     }
     let number = [(r % 256) as u8];
     let sum = fold(fold(start, &number), symbols);
-    fold(fold(sum, changes), answer)
+    Ok(fold(fold(sum, changes), answer))
 }
 
 // One outcome, where of each run only the front is lent.
 fn outcome(
+    rt: &impl Print,
     start: u32,
     full: bool,
     symbols: &mut [u8],
@@ -70,7 +76,7 @@ fn outcome(
     list: usize,
     answer: &mut [u8],
     told: usize,
-) -> u32
+) -> io::Result<u32>
     requires { (word ≤ length symbols.old) × (list ≤ length changes.old) × (told ≤ length answer.old) }
 {
     let r = door::rindovesh_merge_symbols(
@@ -81,7 +87,7 @@ fn outcome(
         &mut changes[0..list],
         &mut answer[0..told],
     );
-    tell(start, full, r, symbols, changes, answer)
+    tell(rt, start, full, r, symbols, changes, answer)
 }
 
 // The word of n symbols with this number, its first symbol the lowest digit in base three.
@@ -97,6 +103,7 @@ fn spell(run: &mut [u8], n: usize, number: u64)
 
 // One case: a word by its number, and how many bytes are lent of the three runs.
 fn case(
+    rt: &impl Print,
     start: u32,
     full: bool,
     n: usize,
@@ -107,7 +114,7 @@ fn case(
     word: usize,
     list: usize,
     told: usize,
-) -> u32
+) -> io::Result<u32>
     requires { (n ≤ 6) × (word ≤ 24) × (list ≤ 144) × (told ≤ 72) }
 {
     let mut symbols = [0xA5u8; 24];
@@ -115,6 +122,7 @@ fn case(
     let mut answer = [0x5Au8; 72];
     spell(&mut symbols, n, number);
     outcome(
+        rt,
         start,
         full,
         &mut symbols,
@@ -130,30 +138,29 @@ fn case(
 }
 
 // The word a a a with a list of two places, and a b a b with one of four and one of three.
-fn examples() {
-    text(b"example 11: ");
-    case(0, true, 3, 0, 97, 97, 256, 12, 32, 64);
-    text(b"example 12: ");
-    case(0, true, 4, 30, 97, 98, 256, 16, 64, 64);
-    text(b"example 12, one place short: ");
-    case(0, true, 4, 30, 97, 98, 256, 16, 48, 64);
+fn examples(rt: &impl Print) -> io::Result<()> {
+    rt.write_all(b"example 11: ")?;
+    case(rt, 0, true, 3, 0, 97, 97, 256, 12, 32, 64)?;
+    rt.write_all(b"example 12: ")?;
+    case(rt, 0, true, 4, 30, 97, 98, 256, 16, 64, 64)?;
+    rt.write_all(b"example 12, one place short: ")?;
+    case(rt, 0, true, 4, 30, 97, 98, 256, 16, 48, 64)?;
+    Ok(())
 }
 
-fn number(v: u64) {
-    io::print_decimal(STDOUT_FILENO, v);
-    text(b" ");
+fn number(rt: &impl Print, v: u64) -> io::Result<()> {
+    print!(rt; "{v} ")
 }
 
 // How many cases there were, and their checksum.
-fn line(cases: u64, sum: u32) {
-    number(cases);
-    io::print_hex(STDOUT_FILENO, sum as u64, 8);
-    text(b"\n");
+fn line(rt: &impl Print, cases: u64, sum: u32) -> io::Result<()> {
+    number(rt, cases)?;
+    println!(rt; "{sum:08x}")
 }
 
 // The word a b a b a b, whose number has the digits 0 1 0 1 0 1, with 0 to 24 bytes of it, an answer
 // run that is one byte short, exactly long enough or longer, and a list of 0 to 144 bytes.
-fn shapes() {
+fn shapes(rt: &impl Print) -> io::Result<()> {
     let mut sum = START;
     for t in 0..10875 {
         let told = match t / 145 % 3 {
@@ -161,9 +168,9 @@ fn shapes() {
             1 => 64,
             _ => 72,
         };
-        sum = case(sum, false, 6, 273, 97, 98, 256, t / 435, t % 145, told);
+        sum = case(rt, sum, false, 6, 273, 97, 98, 256, t / 435, t % 145, told)?;
     }
-    line(10875, sum);
+    line(rt, 10875, sum)
 }
 
 // 0: all equal; 1: a pair of equal symbols; 2, 3: x is the left or the right one; 4: all differ.
@@ -181,7 +188,7 @@ fn kind(a: usize, b: usize, x: usize) -> u64 {
 
 // All words of n symbols, of which there are `many`, each with the pairs and new symbols of one kind
 // and with a list of 0 to 9 places.
-fn words(n: usize, many: u16, k: u64)
+fn words(rt: &impl Print, n: usize, many: u16, k: u64) -> io::Result<()>
     requires { n ≤ 6 }
 {
     let mut sum = START;
@@ -192,6 +199,7 @@ fn words(n: usize, many: u16, k: u64)
         let x = t / 10 % 4;
         if kind(a, b, x) == k {
             sum = case(
+                rt,
                 sum,
                 false,
                 n,
@@ -202,23 +210,24 @@ fn words(n: usize, many: u16, k: u64)
                 n * 4,
                 t % 10 * 16,
                 72,
-            );
+            )?;
             cases += 1;
         }
     }
-    line(cases, sum);
+    line(rt, cases, sum)
 }
 
-fn main() {
-    examples();
-    text(b"runs of any length: ");
-    shapes();
-    text(b"by length and kind:\n");
+fn main(rt: HostRuntime) -> io::Result<()> {
+    examples(&rt)?;
+    rt.write_all(b"runs of any length: ")?;
+    shapes(&rt)?;
+    rt.write_all(b"by length and kind:\n")?;
     for t in 0..35 {
         let n = t / 5;
         let k = (t % 5) as u64;
-        number(n as u64);
-        number(k);
-        words(n, WORDS[n], k);
+        number(&rt, n as u64)?;
+        number(&rt, k)?;
+        words(&rt, n, WORDS[n], k)?;
     }
+    Ok(())
 }

@@ -26,9 +26,10 @@
 // a room is not read.
 #![tactic(auto)]
 
-ghost use Rattle.std.specs.Prelude.{◌<◌, ◌≤◌, length};
+ghost use Rattle.std.specs.Prelude.{◌<◌, ◌≤◌, IfOk, length};
 
-use libc::{STDIN_FILENO, STDOUT_FILENO};
+use std::io;
+use std::io::{Print, Read};
 use trainer::Answer;
 
 const LF: u8 = 10;
@@ -36,9 +37,9 @@ const LF: u8 = 10;
 const SPACE: u8 = 32;
 
 // Writes a text and a number.
-fn print(before: &[u8], n: u64) {
-    io::write_all(STDOUT_FILENO, before);
-    io::print_decimal(STDOUT_FILENO, n);
+fn print(rt: &impl Print, before: &[u8], n: u64) -> io::Result<()> {
+    rt.write_all(before)?;
+    print!(rt; "{n}")
 }
 
 // The value of a digit, 0 of a byte that is none.
@@ -135,32 +136,38 @@ fn checksum(pieces: &[u8], ends: &[u8], merges: &[u8], count: u64, many: u64) ->
 }
 
 // Writes the line of what training came to.
-fn tell(r: Answer, piece_bytes: &[u8], ends: &[u8], pairs: &[u8]) {
+fn tell(
+    rt: &impl Print,
+    r: Answer,
+    piece_bytes: &[u8],
+    ends: &[u8],
+    pairs: &[u8],
+) -> io::Result<()> {
     match r {
         Answer::Done {
             pieces,
             alphabet,
             merges,
         } => {
-            print(b"", pieces);
-            print(b" ", alphabet);
-            print(b" ", merges);
-            print(b" ", checksum(piece_bytes, ends, pairs, pieces, merges));
+            print(rt, b"", pieces)?;
+            print(rt, b" ", alphabet)?;
+            print(rt, b" ", merges)?;
+            print(rt, b" ", checksum(piece_bytes, ends, pairs, pieces, merges))?;
         }
         Answer::Refused(why) => {
-            print(b"refused ", why.number());
-            print(b" ", why.first());
-            print(b" ", why.second());
+            print(rt, b"refused ", why.number())?;
+            print(rt, b" ", why.first())?;
+            print(rt, b" ", why.second())?;
         }
     }
-    io::write_all(STDOUT_FILENO, b"\n");
+    rt.write_all(b"\n")
 }
 
 // Trains on a table and writes its line. The runs are pieces with these ends, numbered as the lines
 // are, so that the settings are the room's first 32 bytes; a table with fewer has no line.
-fn train(room: &[u8], ends: &[u8]) {
+fn train(rt: &impl Print, room: &[u8], ends: &[u8]) -> io::Result<()> {
     if room.len() < 32 {
-        return;
+        return Ok(());
     }
     let mut work = [0u8; 61440];
     let mut pieces = [0u8; 1024];
@@ -185,11 +192,11 @@ fn train(room: &[u8], ends: &[u8]) {
         &mut merges,
         &mut savings,
     );
-    tell(r, &pieces, &piece_ends, &merges);
+    tell(rt, r, &pieces, &piece_ends, &merges)
 }
 
 // Reads the table at the front of the text, its runs end to end, and trains on it.
-fn table(s: &[u8]) {
+fn table(rt: &impl Print, s: &[u8]) -> io::Result<()> {
     let mut room = [0u8; 1024];
     let mut ends = [0u8; 32];
     let mut end = 0;
@@ -197,21 +204,40 @@ fn table(s: &[u8]) {
         end = spell(&mut room, end, digits(s, k));
         numbers::store4(&mut ends, k * 4, end as u32);
     }
-    train(&room[0..end], &ends);
+    train(rt, &room[0..end], &ends)
 }
 
 // Goes through the tables, eight lines each.
-fn run(s: &[u8]) {
+fn run(rt: &impl Print, s: &[u8]) -> io::Result<()> {
     let mut at = 0;
     while at < s.len() {
         let rest = &s[at..];
-        table(rest);
+        table(rt, rest)?;
         at += behind(rest, LF, 8);
     }
+    Ok(())
 }
 
-fn main() {
+// Reads until the room is full or the input ends, and answers how many bytes came.
+fn read_full<R: Read>(input: &mut R, room: &mut [u8]) -> io::Result<usize>
+    ensures { IfOk result (λ n. n ≤ length room.new) }
+{
+    let mut n = 0;
+    for _ in 0..u64::MAX {
+        if n == room.len() {
+            break;
+        }
+        let more = input.read(&mut room[n..])?;
+        if more == 0 {
+            break;
+        }
+        n += more;
+    }
+    Ok(n)
+}
+
+fn main(rt: HostRuntime) -> io::Result<()> {
     let mut input = [0u8; 131072];
-    let n = io::read_full(STDIN_FILENO, &mut input);
-    run(&input[..n]);
+    let n = read_full(&mut rt.reader(), &mut input)?;
+    run(&rt, &input[..n])
 }

@@ -1,0 +1,9 @@
+-- `replay::run` is safe and ends: the place stays within the text.
+use Rattle.std.proofs.Common.{◌-◌, ◌≤◌, length}
+use Rattle.replay.proofs.run.Given as goal
+
+abbrev pub invariant-loop-at : goal.invariant-loop-at
+invariant-loop-at g l = l.at ≤ length l.s
+
+abbrev pub decreases-loop-at : goal.decreases-loop-at
+decreases-loop-at g l = length l.s - l.at
