@@ -10,7 +10,7 @@ use Rattle.runs.proofs.Parts.{length-part}
 use Rattle.runs.proofs.Frames.{kept_then, kept_wide, laid_front}
 use Rattle.cells.specs.Cells.{cells}
 use Rattle.cells.proofs.Cells.{length-cells}
-use Rattle.rule.specs.Table.{Task, Rooms, A, U, room_for, alphabet, frequencies, word_units, weighed}
+use Rattle.rule.specs.Table.{Task, Rooms, A, U, room_for, alphabet, frequencies, word_units}
 use Rattle.rule.specs.Seeding.{decorated, seeds, kept}
 use Rattle.rule.specs.Training.{train_from, trained, all_pieces}
 use Rattle.rule.specs.Layout.{piece_bytes, piece_records, merge_bytes, saving_bytes}
