@@ -14,10 +14,10 @@ raise-m-requires c = let l = c.loop-left in
 
 pub loop-left-preserved : goal.loop-left-preserved
 loop-left-preserved c = let l = c.loop-left in (
-      search rules,
-      raise-turn _ _ _ _ _ _ _ _ _ _ _ l.invariant.1 (omega arith) _ _ c.symbol-s.ensures c.symbol-t.ensures _ _
-          c.raise-m.ensures,
-    )
+  search rules,
+  raise-turn _ _ _ _ _ _ _ _ _ _ _ l.invariant.1 (omega arith) _ _ c.symbol-s.ensures c.symbol-t.ensures _ _
+      c.raise-m.ensures,
+)
 
 pub returns : goal.returns
 returns c = search laws
