@@ -41,6 +41,13 @@ pub fn copy_cells(room: &mut [u8], at: usize, from: usize, n: usize)
     runs::copy_within(room, at * 8, from * 8, n * 8);
 }
 
+// Where slots stand in a room: in a ring, from the cell `base` on, `cap` of them.
+#[derive(Clone, Copy)]
+pub struct Ring {
+    pub base: usize,
+    pub cap: usize,
+}
+
 // What a search round a ring comes to: what was looked for, the vacant slot where it would go, or neither.
 #[derive(Clone, Copy)]
 pub enum Found {

@@ -7,6 +7,10 @@ ghost use Rattle.std.specs.Prelude.{◌≡◌};
 ghost use Rattle.runs.specs.Parts.{nth};
 ghost use Rattle.error.specs.Answers.{train_verdict, piece_verdict, merge_error_verdict};
 
+// What was asked for has no place in a lent room.
+#[derive(Clone, Copy)]
+pub struct NoRoom;
+
 // Why a table was not trained on.
 #[derive(Clone, Copy)]
 pub enum TrainError {

@@ -6,6 +6,14 @@ ghost use Rattle.std.specs.Prelude.{◌≡◌, ◌++◌, ◌<◌};
 ghost use Rattle.order.specs.Order.{same};
 ghost use Rattle.spells.specs.Hash.{hash_from, hash_of};
 
+// A spelling in three parts, each of which may be empty.
+#[derive(Clone, Copy)]
+pub struct Spelling<'a> {
+    pub prefix: &'a [u8],
+    pub unit: &'a [u8],
+    pub suffix: &'a [u8],
+}
+
 // Tells whether two parts end to end are the bytes of a piece.
 fn equal_two(a: &[u8], b: &[u8], piece: &[u8]) -> bool
     ensures { result ≡ same (a.now ++ b.now) piece.now }

@@ -8,6 +8,14 @@
 ghost use Rattle.std.specs.Prelude.{◌≡◌};
 ghost use Rattle.step.specs.Step.{keeps, step_by};
 
+// A merge as a rule for words: the pair (a,b) is rewritten to x.
+#[derive(Clone, Copy)]
+pub struct Rule {
+    pub a: u32,
+    pub b: u32,
+    pub x: u32,
+}
+
 // What a step does: it writes `symbol` and has read `took` symbols, 1 or 2. Its reports, in this
 // order: where `behind`, (previous,a) -1 and (previous,x) +1; where `ahead`, (b,next) -1 and
 // (x,next) +1.

@@ -19,6 +19,30 @@ use error::TrainError;
 use order::Order;
 use text::Seeding;
 
+// A word table as it is lent: the words end to end and where each ends, 4 bytes each; how often each occurs,
+// 8 bytes each; the initial alphabet like the words; the marks of a unit's place; and 0 for Bytes or 1 for
+// Chars. Any runs and any number have an answer.
+#[derive(Clone, Copy)]
+pub struct Table<'a> {
+    pub words: &'a [u8],
+    pub word_ends: &'a [u8],
+    pub frequencies: &'a [u8],
+    pub alphabet: &'a [u8],
+    pub alphabet_ends: &'a [u8],
+    pub prefix: &'a [u8],
+    pub suffix: &'a [u8],
+    pub seeding: u64,
+}
+
+// How far training goes: how many pieces are asked for, the least count of a pair that is merged, and the
+// most bytes of a piece that a merge makes.
+#[derive(Clone, Copy)]
+pub struct Settings {
+    pub vocab_size: u64,
+    pub min_frequency: u64,
+    pub max_piece_length: u64,
+}
+
 // The limits of row 2.
 const MOST_WORDS: usize = 16777216;
 

@@ -16,6 +16,13 @@ use error::PieceError;
 // More ends than this are refused.
 const MOST_ENDS: usize = 16777216;
 
+// How far the two runs of a vocabulary are filled: so many pieces, which have so many bytes.
+#[derive(Clone, Copy)]
+pub struct Filled {
+    pub count: usize,
+    pub used: usize,
+}
+
 // The i-th end.
 pub fn end_at(ends: &[u8], i: usize) -> usize
     requires { i < length ends.now / 4 }
