@@ -17,7 +17,7 @@ use Rattle.numbers.specs.Little.{store}
 use Rattle.cells.specs.Cells.{cells, Put}
 use Rattle.cells.specs.Ring.{after}
 use Rattle.cells.proofs.Cells.{length-cells}
-use Rattle.cells.proofs.Ring.{blanks-less, blanks_some}
+use Rattle.cells.proofs.Rings.{blanks-less, blanks_some}
 use Rattle.rule.specs.Seeding.{number_of}
 use Rattle.rule.specs.Layout.{piece_start, piece_at}
 use Rattle.rule.proofs.Seeding.{Has, found}

@@ -1,6 +1,6 @@
 -- `cells::next` meets its contract: the first slot follows the last.
 use borrow.Author.Rules.{rules}
-use Rattle.cells.proofs.Ring.{after_last, after-more}
+use Rattle.cells.proofs.Rings.{after_last, after-more}
 use Rattle.cells.proofs.next.Goals as goal
 
 ruleset laws = (after_last, after-more, rules)
