@@ -1,18 +1,13 @@
 -- `step::decide` meets its contract: each way through it is one case of the definition.
 use borrow.Author.Rules.{rules}
-use Rattle.step.proofs.Steps.{by_last, by_left, by_right, by_hit}
+use Rattle.step.proofs.Steps.{by_left, by_right, by_hit}
 use Rattle.step.proofs.decide.Goals as goal
+use Rattle.step.proofs.decide.Goals.{else-s-rule-via-then-s-rule+else-eq, else-s-rule-via-else-s-rule}
 
-ruleset laws = (by_last, by_left, by_right, by_hit, rules)
+ruleset laws = (by_left, by_right, by_hit, rules)
 
-pub returns-then-left-lt2 : goal.returns-then-left-lt2
-returns-then-left-lt2 c = search laws
-
-pub returns-then-s-a : goal.returns-then-s-a
-returns-then-s-a c = search laws
-
-pub returns-then-t-b : goal.returns-then-t-b
-returns-then-t-b c = search laws
+pub returns-then-eq : goal.returns-then-eq
+returns-then-eq c = search laws
 
 pub returns : goal.returns
-returns c = search laws
+returns c = elim c.else-s-rule.branch [ else-s-rule-via-then-s-rule+else-eq w ↦ by_right _ _ _ _ _ _ _ w.if-eq.ensures | else-s-rule-via-else-s-rule w ↦ by_left _ _ _ _ _ _ _ w.if-s-rule.false ]
