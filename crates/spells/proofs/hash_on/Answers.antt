@@ -4,11 +4,11 @@ use Rattle.spells.proofs.hash_on.Goals as goal
 
 ruleset laws = (hash_start, hash_turn, hash_end, rules)
 
-pub loop-i-init : goal.loop-i-init
-loop-i-init c = search laws
+pub loop-b-init : goal.loop-b-init
+loop-b-init c = search laws
 
-pub loop-i-preserved : goal.loop-i-preserved
-loop-i-preserved c = search laws
+pub loop-b-preserved : goal.loop-b-preserved
+loop-b-preserved c = search laws
 
 pub returns : goal.returns
 returns c = search laws
