@@ -46,16 +46,13 @@ pub fn piece_start(ends: &[u8], n: usize) -> usize
 fn rises(ends: &[u8], bytes: usize) -> bool
     ensures { result ≡ rise_to bytes 0 (numbers 4 ends.now) }
 {
-    let count = ends.len() / 4;
-    let mut i = 0;
     let mut last = 0;
-    while i < count {
+    for i in 0..ends.len() / 4 {
         let end = end_at(ends, i);
         if end < last {
             return false;
         }
         last = end;
-        i += 1;
     }
     last == bytes
 }
@@ -71,42 +68,42 @@ pub fn is_shaped(bytes: &[u8], ends: &[u8]) -> bool
     rises(ends, bytes.len())
 }
 
-// Where a piece stands, or why there is none.
+// Where a piece stands among the bytes of all pieces.
 #[derive(Clone, Copy)]
-pub enum Lookup {
-    At { start: usize, length: usize },
-    Refused(PieceError),
+pub struct Place {
+    pub start: usize,
+    pub length: usize,
 }
 
-// Looks a piece up by its number.
-pub fn look(pieces: &[u8], ends: &[u8], number: u64) -> Lookup
+// Looks a piece up by its number: where it stands, or why there is none.
+pub fn look(pieces: &[u8], ends: &[u8], number: u64) -> Result<Place, PieceError>
     ensures { Looked pieces.now ends.now number result }
 {
     if !is_shaped(pieces, ends) {
-        return Lookup::Refused(PieceError::BadShape);
+        return Err(PieceError::BadShape);
     }
     let count = ends.len() / 4;
     if MOST_ENDS < count {
-        return Lookup::Refused(PieceError::BadShape);
+        return Err(PieceError::BadShape);
     }
     if count as u64 <= number {
-        return Lookup::Refused(PieceError::NoSuchId);
+        return Err(PieceError::NoSuchId);
     }
     let n = number as usize;
     let start = piece_start(ends, n);
     let end = end_at(ends, n);
     let length = end - start;
-    Lookup::At { start, length }
+    Ok(Place { start, length })
 }
 
 // The part of the pieces that an answer names: empty where it names none.
-fn part<'a>(pieces: &'a [u8], what: Lookup) -> &'a [u8]
+fn part<'a>(pieces: &'a [u8], what: Result<Place, PieceError>) -> &'a [u8]
     requires { Within what (length pieces.now) }
     ensures { result.now ≡ part_of pieces.now what }
 {
     match what {
-        Lookup::At { start, length } => &pieces[start..start + length],
-        Lookup::Refused(_) => &pieces[0..0],
+        Ok(place) => &pieces[place.start..place.start + place.length],
+        Err(_) => &[],
     }
 }
 

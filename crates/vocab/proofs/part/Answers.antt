@@ -7,13 +7,13 @@ use Rattle.vocab.proofs.part.Goals as goal
 ruleset laws = (part_inside, part_found, part_refused, rules)
 
 pub overflow_add-result : goal.overflow_add-result
-overflow_add-result c = omega (arith, part_inside _ _ _ _ c.in-At.is c.requires)
+overflow_add-result c = omega (arith, part_inside _ _ _ c.in-Ok.is c.requires)
 
 pub slice_bounds-result-end : goal.slice_bounds-result-end
 slice_bounds-result-end c = search laws
 
-pub returns-in-At : goal.returns-in-At
-returns-in-At c = search laws
+pub returns-in-Ok : goal.returns-in-Ok
+returns-in-Ok c = search laws
 
-pub returns-in-Refused : goal.returns-in-Refused
-returns-in-Refused c = search laws
+pub returns-in-Err : goal.returns-in-Err
+returns-in-Err c = search laws
