@@ -2,7 +2,7 @@
 use mathlib.Core.Path.{◌≡◌, sym, ◌∙◌}
 use mathlib.Core.List.{List, []}
 use mathlib.Core.Logic.{inl, inr}
-use Prim.Native.Nat.{ℕ, ◌+◌, ◌-◌, ◌<◌}
+use Prim.Native.Nat.{ℕ, ◌+◌, ◌<◌}
 use native.Mathlib.Omega.{arith}
 use borrow.Author.Tests.{eq-eqb, ne_eqb}
 use Rattle.runs.specs.Parts.{Kept}
@@ -119,11 +119,11 @@ module _ (p : Pairs) (k r : ℕ) (cs ds : List ℕ) (c : CanMake p k cs) where
           }
 
 -- AN ENTRY: it is counted, and a key that has a record keeps it
-module _ (p : Pairs) (k v : ℕ) (cs ds : List ℕ) (c : CanEnter p k cs) (a : Asked p cs ds) (e : v ≡ record_of p ds k) where
-  pub entered_old : (v ≡ 0 → ⊥) → Entered p k (v - 1) cs ds
-  entered_old n =
+module _ (p : Pairs) (k : ℕ) (cs ds : List ℕ) (c : CanEnter p k cs) (a : Asked p cs ds) where
+  pub entered_old : (r : ℕ) → record_of p ds k ≡ r + 1 → Entered p k r cs ds
+  entered_old r e =
       record {
-        has = record { ok = a.ok; pos = c.pos; at = at; low = (a.ok.tied k (v - 1) c.pos at).low };
+        has = record { ok = a.ok; pos = c.pos; at = e; low = (a.ok.tied k r c.pos e).low };
         states = a.states;
         records = λ q h w. a.records q h;
         old = λ w h. omega (arith, e, h, a.records k c.pos);
@@ -131,21 +131,19 @@ module _ (p : Pairs) (k v : ℕ) (cs ds : List ℕ) (c : CanEnter p k cs) (a : A
         more = a.more;
         less = omega (arith, a.less);
       }
-    where
-      at : record_of p ds k ≡ v - 1 + 1
-      at = omega arith
 
-  pub can_make : v ≡ 0 → CanMake p k ds
-  can_make z = record { ok = a.ok; pos = c.pos; none = sym e ∙ z; slots = a.slots; few = a.few }
+  module _ (z : record_of p ds k ≡ 0) where
+    pub can_make : CanMake p k ds
+    can_make = record { ok = a.ok; pos = c.pos; none = z; slots = a.slots; few = a.few }
 
-  pub entered_new : (r : ℕ) (es : List ℕ) → v ≡ 0 → Made p k r ds es → Entered p k r cs es
-  entered_new r es z m =
-      record {
-        has = m.has;
-        states = λ q h. m.states q h ∙ a.states q h;
-        records = λ q h n. m.records q h n ∙ a.records q h;
-        old = λ w h. absurd (omega (arith, e, z, h, a.records k c.pos));
-        kept = kept_then a.kept m.kept;
-        more = m.same ∙ a.more;
-        less = omega (arith, m.less, a.less);
-      }
+    pub entered_new : (r : ℕ) (es : List ℕ) → Made p k r ds es → Entered p k r cs es
+    entered_new r es m =
+        record {
+          has = m.has;
+          states = λ q h. m.states q h ∙ a.states q h;
+          records = λ q h n. m.records q h n ∙ a.records q h;
+          old = λ w h. absurd (omega (arith, z, h, a.records k c.pos));
+          kept = kept_then a.kept m.kept;
+          more = m.same ∙ a.more;
+          less = omega (arith, m.less, a.less);
+        }

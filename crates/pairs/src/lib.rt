@@ -2,10 +2,12 @@
 // behind these. A pair is its key, left * 2^32 + right + 1.
 #![tactic(auto)]
 
-ghost use Rattle.std.specs.Prelude.{◌≡◌, ◌<◌};
+ghost use Rattle.std.specs.Prelude.{◌≡◌, ◌+◌, ◌*◌, ◌^◌, ◌<◌, MatchOption};
 ghost use Rattle.cells.specs.Cells.{cells};
-ghost use Rattle.pairs.specs.View.{record_of, made};
+ghost use Rattle.pairs.specs.View.{arena_at, lists_at, data_at, behind, record_of, made};
 ghost use Rattle.pairs.specs.Pairs.{Pairing, CanEnter, Entered, Asked, CanMake, Made, Removed};
+
+use cells::Ring;
 
 // The index has `cap` slots from the cell `base` on; there is place for `most` records.
 #[derive(Clone, Copy)]
@@ -15,12 +17,62 @@ pub struct Pairs {
     pub most: usize,
 }
 
-// A pair's record and 1, or 0 where it has none.
-pub fn find(room: &[u8], p: Pairs, key: u64) -> u64
+// Where the parts behind the index begin.
+impl Pairs {
+    // The records.
+    pub fn records(self) -> usize
+        requires { arena_at self < 2 ^ 64 }
+        ensures { result ≡ arena_at self }
+    {
+        self.base + 2 * self.cap
+    }
+
+    // Two cells for the long lists: how many cells of theirs are used, and how many times a record was asked for.
+    pub fn lists(self) -> usize
+        requires { lists_at self < 2 ^ 64 }
+        ensures { result ≡ lists_at self }
+    {
+        self.base + 2 * self.cap + 3 + 8 * self.most
+    }
+
+    // The words of the long lists.
+    pub fn words(self) -> usize
+        requires { data_at self < 2 ^ 64 }
+        ensures { result ≡ data_at self }
+    {
+        self.lists() + 2
+    }
+
+    // The list of the pairs that a merge touched.
+    pub fn touched(self) -> usize
+        requires { behind self < 2 ^ 64 }
+        ensures { result ≡ behind self }
+    {
+        self.words() + 4 * self.most
+    }
+
+    // What lies behind all of them.
+    pub fn end(self) -> usize
+        requires { behind self + 2 * self.most < 2 ^ 64 }
+        ensures { result ≡ behind self + 2 * self.most }
+    {
+        self.touched() + 2 * self.most
+    }
+}
+
+// A pair's record, where it has one.
+pub fn find(room: &[u8], p: Pairs, key: u64) -> Option<usize>
     requires { (Pairing p (cells room.now)) × (0 < key) }
-    ensures { result ≡ record_of p (cells room.now) key }
+    ensures { MatchOption result (record_of p (cells room.now) key ≡ 0) (λ r. record_of p (cells room.now) key ≡ r + 1) }
 {
-    index::get(room, p.base, p.cap, key)
+    let ring = Ring {
+        base: p.base,
+        cap: p.cap,
+    };
+    match index::get(room, ring, key) {
+        Some(v) => Some((v - 1) as usize),
+        None => None,
+    }
 }
 
 // Counts that a record is asked for.
@@ -28,7 +80,7 @@ fn ask(room: &mut [u8], p: Pairs)
     requires { (Pairing p (cells room.old)) × (made p (cells room.old) < p.most) }
     ensures { Asked p (cells room.old) (cells room.new) }
 {
-    let at = p.base + 2 * p.cap + 3 + p.most * 8 + 1;
+    let at = p.lists() + 1;
     let m = cells::cell(room, at);
     cells::put_cell(room, at, m + 1);
 }
@@ -38,8 +90,12 @@ fn make(room: &mut [u8], p: Pairs, key: u64) -> usize
     requires { CanMake p key (cells room.old) }
     ensures { Made p key result (cells room.old) (cells room.new) }
 {
-    let r = arena::alloc(room, p.base + 2 * p.cap, p.most, key);
-    index::insert(room, p.base, p.cap, key, (r + 1) as u64);
+    let ring = Ring {
+        base: p.base,
+        cap: p.cap,
+    };
+    let r = arena::alloc(room, p.records(), p.most, key);
+    index::insert(room, ring, key, (r + 1) as u64);
     r
 }
 
@@ -49,11 +105,10 @@ pub fn entry(room: &mut [u8], p: Pairs, key: u64) -> usize
     ensures { Entered p key result (cells room.old) (cells room.new) }
 {
     ask(room, p);
-    let v = index::get(room, p.base, p.cap, key);
-    if v != 0 {
-        return (v - 1) as usize;
+    match find(room, p, key) {
+        Some(r) => r,
+        None => make(room, p, key),
     }
-    make(room, p, key)
 }
 
 // Takes a pair's record away, if it has one.
@@ -61,10 +116,12 @@ pub fn remove(room: &mut [u8], p: Pairs, key: u64)
     requires { (Pairing p (cells room.old)) × (0 < key) }
     ensures { Removed p key (cells room.old) (cells room.new) }
 {
-    let v = index::get(room, p.base, p.cap, key);
-    if v == 0 {
-        return;
+    let ring = Ring {
+        base: p.base,
+        cap: p.cap,
+    };
+    if let Some(r) = find(room, p, key) {
+        index::erase(room, ring, key);
+        arena::release(room, p.records(), p.most, r);
     }
-    index::erase(room, p.base, p.cap, key);
-    arena::release(room, p.base + 2 * p.cap, p.most, (v - 1) as usize);
 }
