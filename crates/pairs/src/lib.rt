@@ -17,8 +17,18 @@ pub struct Pairs {
     pub most: usize,
 }
 
-// Where the parts behind the index begin.
+// Where the parts stand.
 impl Pairs {
+    // The index.
+    fn index(self) -> Ring
+        ensures { result ≡ record { base = self.base; cap = self.cap } }
+    {
+        Ring {
+            base: self.base,
+            cap: self.cap,
+        }
+    }
+
     // The records.
     pub fn records(self) -> usize
         requires { arena_at self < 2 ^ 64 }
@@ -65,11 +75,7 @@ pub fn find(room: &[u8], p: Pairs, key: u64) -> Option<usize>
     requires { (Pairing p (cells room.now)) × (0 < key) }
     ensures { MatchOption result (record_of p (cells room.now) key ≡ 0) (λ r. record_of p (cells room.now) key ≡ r + 1) }
 {
-    let ring = Ring {
-        base: p.base,
-        cap: p.cap,
-    };
-    match index::get(room, ring, key) {
+    match index::get(room, p.index(), key) {
         Some(v) => Some((v - 1) as usize),
         None => None,
     }
@@ -90,12 +96,8 @@ fn make(room: &mut [u8], p: Pairs, key: u64) -> usize
     requires { CanMake p key (cells room.old) }
     ensures { Made p key result (cells room.old) (cells room.new) }
 {
-    let ring = Ring {
-        base: p.base,
-        cap: p.cap,
-    };
     let r = arena::alloc(room, p.records(), p.most, key);
-    index::insert(room, ring, key, (r + 1) as u64);
+    index::insert(room, p.index(), key, (r + 1) as u64);
     r
 }
 
@@ -116,12 +118,8 @@ pub fn remove(room: &mut [u8], p: Pairs, key: u64)
     requires { (Pairing p (cells room.old)) × (0 < key) }
     ensures { Removed p key (cells room.old) (cells room.new) }
 {
-    let ring = Ring {
-        base: p.base,
-        cap: p.cap,
-    };
     if let Some(r) = find(room, p, key) {
-        index::erase(room, ring, key);
+        index::erase(room, p.index(), key);
         arena::release(room, p.records(), p.most, r);
     }
 }
