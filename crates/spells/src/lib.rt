@@ -37,6 +37,7 @@ pub fn equal_three(spelling: Spelling, piece: &[u8]) -> bool
 }
 
 // The hash of what was hashed to `before`, with s behind it.
+#[tactic(auto, using(crate::proofs::Hash::hash_start, crate::proofs::Hash::hash_turn, crate::proofs::Hash::hash_end))]
 fn hash_on(before: u64, s: &[u8]) -> u64
     requires { before < 4294967296 }
     ensures { (result ≡ hash_from before s.now) × (result < 4294967296) }
@@ -49,6 +50,7 @@ fn hash_on(before: u64, s: &[u8]) -> u64
 }
 
 // The hash of prefix, unit and suffix end to end.
+#[tactic(auto, using(crate::proofs::Hash::hash_parts))]
 pub fn hash_three(spelling: Spelling) -> u64
     ensures { (result ≡ hash_of (spelling.entry.prefix.now ++ (spelling.entry.unit.now ++ spelling.entry.suffix.now))) × (result < 4294967296) }
 {
