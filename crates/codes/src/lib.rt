@@ -8,6 +8,8 @@ ghost use Rattle.std.specs.Prelude.{◌≡◌, [], ◌∷◌, ◌++◌, ◌+◌,
 ghost use Rattle.codes.specs.Codes.{left_of, right_of, line_of, codes_text};
 ghost use Rattle.codes.specs.Writing.{Wrote, Placed, lines_to};
 
+use error::NoRoom;
+
 // What stands between two spellings.
 const SPACE: u8 = 32;
 
@@ -18,6 +20,7 @@ const LF: u8 = 10;
 const FIRST_LINE: usize = 14;
 
 // The left number of the i-th merge.
+#[tactic(auto, unfolding(crate::specs::Codes::left_of))]
 fn left_of(merges: &[u8], i: usize) -> u64
     requires { i * 8 + 8 ≤ length merges.now }
     ensures { result ≡ left_of merges.now i }
@@ -26,6 +29,7 @@ fn left_of(merges: &[u8], i: usize) -> u64
 }
 
 // The right number of the i-th merge.
+#[tactic(auto, unfolding(crate::specs::Codes::right_of))]
 fn right_of(merges: &[u8], i: usize) -> u64
     requires { i * 8 + 8 ≤ length merges.now }
     ensures { result ≡ right_of merges.now i }
@@ -56,15 +60,13 @@ fn fits(pieces: &[u8], ends: &[u8], merges: &[u8], count: usize, room: usize) ->
         return false;
     }
     let mut rest = room - FIRST_LINE;
-    let mut i = 0;
-    while i < count {
+    for i in 0..count {
         let left = vocab::piece(pieces, ends, left_of(merges, i));
         let right = vocab::piece(pieces, ends, right_of(merges, i));
         if !line_fits(left, right, rest) {
             return false;
         }
         rest = rest - 2 - left.len() - right.len();
-        i += 1;
     }
     true
 }
@@ -111,38 +113,29 @@ fn write_lines(
     ensures { Placed out.old out.new from (lines_to pieces.now ends.now merges.now count 0) result }
 {
     let mut at = from;
-    let mut i = 0;
-    while i < count {
+    for i in 0..count {
         at = write_line(out, at, pieces, ends, merges, i);
-        i += 1;
     }
     at
 }
 
-// The text that is written has so many bytes; or there are fewer merges than asked for, or the run
-// has no room for the text.
-#[derive(Clone, Copy)]
-pub enum Written {
-    Text(usize),
-    NoRoom,
-}
-
-// Writes the text of the first `count` merges at the start of the run.
+// Writes the text of the first `count` merges at the start of the run, and gives how many bytes it
+// has. It is refused where there are fewer merges, or where the run has no room for the text.
 pub fn write_codes(
     out: &mut [u8],
     pieces: &[u8],
     ends: &[u8],
     merges: &[u8],
     count: usize,
-) -> Written
+) -> Result<usize, NoRoom>
     ensures { Wrote out.old pieces.now ends.now merges.now count result out.new }
 {
     if merges.len() / 8 < count {
-        return Written::NoRoom;
+        return Err(NoRoom);
     }
     if !fits(pieces, ends, merges, count, out.len()) {
-        return Written::NoRoom;
+        return Err(NoRoom);
     }
     let first = put(out, 0, b"#version: 0.2", LF);
-    Written::Text(write_lines(out, first, pieces, ends, merges, count))
+    Ok(write_lines(out, first, pieces, ends, merges, count))
 }

@@ -7,8 +7,7 @@
 
 ghost use Rattle.std.specs.Prelude.{◌≤◌, ◌/◌, IfOk, length};
 
-use codes::Written;
-use lines::Parsed;
+use lines::{ParseError, Parsed};
 use std::io;
 use std::io::{Print, Read};
 use trainer::Answer;
@@ -58,10 +57,9 @@ fn write(
     many: usize,
 ) -> io::Result<()> {
     let mut out = [0u8; 4096];
-    let r = codes::write_codes(&mut out, pieces, ends, merges, many);
-    match r {
-        Written::Text(n) => rt.write_all(&out[0..within(n as u64, 4096)]),
-        Written::NoRoom => Ok(()),
+    match codes::write_codes(&mut out, pieces, ends, merges, many) {
+        Ok(n) => rt.write_all(&out[0..within(n as u64, 4096)]),
+        Err(_) => Ok(()),
     }
 }
 
@@ -121,12 +119,11 @@ fn run(rt: &impl Print, s: &[u8]) -> io::Result<()> {
     let mut words = [0u8; 1024];
     let mut ends = [0u8; 256];
     let mut frequencies = [0u8; 512];
-    let r = lines::parse(s, &mut words, &mut ends, &mut frequencies);
-    match r {
-        Parsed::NoRoom => Ok(()),
-        Parsed::TooLong => rt.write_all(b"too long\n"),
-        Parsed::BadLine(n) => line(rt, b"bad line ", n as u64),
-        Parsed::Table { count, bytes } => {
+    match lines::parse(s, &mut words, &mut ends, &mut frequencies) {
+        Err(ParseError::NoRoom) => Ok(()),
+        Err(ParseError::TooLong) => rt.write_all(b"too long\n"),
+        Err(ParseError::BadLine(n)) => line(rt, b"bad line ", n as u64),
+        Ok(Parsed { count, bytes }) => {
             let n = within(count as u64, 64);
             train(
                 rt,
