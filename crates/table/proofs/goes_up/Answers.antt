@@ -1,15 +1,6 @@
--- `table::goes_up` meets its contract: by the cases of a comparison.
-use borrow.Author.Rules.{rules}
-use Rattle.table.proofs.Order.{below-below, below-same, below_above}
+-- `table::goes_up` meets its contract: the two parts lent are compared.
+use Rattle.table.proofs.Order.{below_lent}
 use Rattle.table.proofs.goes_up.Goals as goal
 
-ruleset laws = (below-below, below-same, below_above, rules)
-
-pub returns-in-Below : goal.returns-in-Below
-returns-in-Below c = search laws
-
-pub returns-in-Same : goal.returns-in-Same
-returns-in-Same c = search laws
-
-pub returns-in-Above : goal.returns-in-Above
-returns-in-Above c = search laws
+pub returns : goal.returns
+returns c = rw c.is_lt.ensures (below_lent _ _ _ _ _ c.compare.ensures)

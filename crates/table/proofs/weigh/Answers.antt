@@ -22,13 +22,11 @@ loop-n-preserved c = let l = c.loop-n in
       omega arith,
       omega arith,
       omega arith,
-      omega arith,
-      omega arith,
-      risen_rest _ _ l.n _ l.invariant.5 _ (omega arith) e.ensures,
-      weight_turn _ _ _ _ l.n _ _ (omega arith) e.ensures u.ensures _ _ (omega arith) f.ensures _ _ _ h.ensures l.invariant.6,
-      units-turn _ _ _ _ l.n _ _ (omega arith) e.ensures u.ensures _ _ l.invariant.7,
+      risen_rest _ _ l.n _ l.invariant.3 _ (omega arith) e.ensures,
+      weight_turn _ _ _ _ l.n _ _ (omega arith) e.ensures u.ensures _ _ (omega arith) f.ensures _ _ _ h.ensures l.invariant.4,
+      units-turn _ _ _ _ l.n _ _ (omega arith) e.ensures u.ensures _ _ l.invariant.5,
     )
 
 pub returns : goal.returns
 returns c = let l = c.loop-n in
-    weighed_end _ _ _ _ l.last l.n _ _ l.invariant.6 l.invariant.7 (omega arith) (omega arith) (omega arith) (omega arith)
+    weighed_end _ _ _ _ l.last l.n _ _ l.invariant.4 l.invariant.5 (omega arith) (omega arith) (omega arith) (omega arith)
