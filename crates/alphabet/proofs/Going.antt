@@ -14,7 +14,7 @@ use Rattle.rule.specs.Seeding.{intern, byte_values}
 use Rattle.vocab.specs.Places.{numbers_from}
 use Rattle.vocab.proofs.Places.{parts_start, parts_step, parts_end}
 use Rattle.intern.specs.Pieces.{pieces}
-use Rattle.intern.specs.Intern.{CanIntern, Answer, Gave}
+use Rattle.intern.specs.Intern.{CanIntern, Answer}
 use Rattle.intern.specs.Many.{Ran, Exceed}
 use Rattle.intern.specs.declared.Interned.{Interned}
 use Rattle.error.specs.declared.NoRoom.{NoRoom}

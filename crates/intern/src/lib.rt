@@ -41,12 +41,7 @@ fn is_spelled(
     let k = (x % 4294967296 - 1) as usize;
     let from = vocab::piece_start(ends, k);
     let to = vocab::piece_start(ends, k + 1);
-    spells::equal_three(
-        spelling.prefix,
-        spelling.unit,
-        spelling.suffix,
-        &pieces[from..to],
-    )
+    spells::equal_three(spelling, &pieces[from..to])
 }
 
 // Which piece has this spelling. Each slot is looked at once at most.
@@ -62,7 +57,7 @@ fn find(
     ensures { result ≡ look ring.base ring.cap (cells room.now) pieces.now ends.now
         (spelling.entry.prefix.now ++ (spelling.entry.unit.now ++ spelling.entry.suffix.now)) }
 {
-    let hash = spells::hash_three(spelling.prefix, spelling.unit, spelling.suffix);
+    let hash = spells::hash_three(spelling);
     let mut i = (hash % (ring.cap as u64)) as usize;
     for _ in 0..ring.cap {
         let x = cells::cell(room, ring.base + i);
@@ -127,7 +122,7 @@ fn add(
     if !fits(LONGEST - used, spelling) {
         return Err(NoRoom);
     }
-    let hash = spells::hash_three(spelling.prefix, spelling.unit, spelling.suffix);
+    let hash = spells::hash_three(spelling);
     let end = spelling::decorate(
         pieces,
         used,
