@@ -4,21 +4,25 @@
 
 ghost use Rattle.std.specs.Prelude.{◌≡◌, true, cond};
 ghost use Rattle.cells.specs.Cells.{cells};
+ghost use Rattle.rule.specs.Rewriting.{before, after};
 ghost use Rattle.marks.specs.Marks.{touched, gained, marking};
-ghost use Rattle.step.specs.Step.{reports_of};
-ghost use Rattle.reports.specs.Reports.{CanTouch, TouchDone, CanRaise, RaiseDone, CanLower, LowerDone, side_of, CanSide, SideDone, CanReport, ReportDone};
+ghost use Rattle.step.specs.Step.{standing, following, reports_of};
+ghost use Rattle.reports.specs.Reports.{CanTouch, TouchDone, CanRaise, RaiseDone, CanLower, LowerDone, swapped, CanSide, SideDone, CanReport, ReportDone};
 
+use marks::Mark;
 use pairs::Pairs;
+use step::{Rule, Step};
 
 // The marks of a pair that is touched, and has gained or not.
 fn mark(was: u8, gain: bool) -> u8
     ensures { result ≡ cond gain (marking gained true (marking touched true was)) (marking touched true was) }
 {
-    let is = marks::set_touched(was);
+    let is = marks::set(Mark::Touched, was);
     if gain {
-        return marks::set_gained(is);
+        marks::set(Mark::Gained, is)
+    } else {
+        is
     }
-    is
 }
 
 // Marks a pair as touched, and as gained where it has gained, and puts its record on the list of n unless it is there.
@@ -29,11 +33,10 @@ fn touch(room: &mut [u8], p: Pairs, key: u64, r: usize, n: usize, gain: bool) ->
     let was = fields::marks(room, p, key, r);
     let is = mark(was, gain);
     fields::set_marks(room, p, key, r, is);
-    if marks::is_touched(was) {
+    if marks::is_set(Mark::Touched, was) {
         return n;
     }
-    let at = p.base + 2 * p.cap + 3 + p.most * 8 + 2 + 4 * p.most;
-    cells::put_cell(room, at + n, r as u64);
+    cells::put_cell(room, p.touched() + n, r as u64);
     n + 1
 }
 
@@ -56,51 +59,72 @@ fn lower(room: &mut [u8], p: Pairs, n: usize, left: u32, right: u32, f: u64) -> 
     ensures { LowerDone p n left right f (cells room.old) (cells room.new) result }
 {
     let k = states::key(left, right);
-    let v = pairs::find(room, p, k);
-    let r = (v - 1) as usize;
+    let r = pairs::find(room, p, k).unwrap();
     let c = fields::count(room, p, k, r);
     fields::set_count(room, p, k, r, c - f);
     touch(room, p, k, r, n, false)
 }
 
-// The reports of one side of a step, where a symbol stands there: -1 of the pair (a,b) and +1 of (c,d), each f times, in the word w.
-fn side(
+// One pair is gone from the word w and another has come, f times each: -1 of `old` and +1 of `new`.
+fn swap(
     room: &mut [u8],
     p: Pairs,
     n: usize,
-    on: bool,
-    a: u32,
-    b: u32,
-    c: u32,
-    d: u32,
+    old: (u32, u32),
+    new: (u32, u32),
     f: u64,
     w: usize,
 ) -> usize
-    requires { CanSide p n (side_of on a b c d) f (cells room.old) }
-    ensures { SideDone p n (side_of on a b c d) f w (cells room.old) (cells room.new) result }
+    requires { CanSide p n (swapped old.0 old.1 new.0 new.1) f (cells room.old) }
+    ensures { SideDone p n (swapped old.0 old.1 new.0 new.1) f w (cells room.old) (cells room.new) result }
 {
-    if on {
-        let m = lower(room, p, n, a, b, f);
-        return raise(room, p, m, c, d, f, w);
-    }
-    n
+    let m = lower(room, p, n, old.0, old.1, f);
+    raise(room, p, m, new.0, new.1, f, w)
 }
 
-// The reports of one step in the word w, each f times: (previous,a) -1, (previous,x) +1, (b,next) -1, (x,next) +1.
-pub fn report(
+// The reports of a rewrite where a symbol stands before it: (previous,a) -1 and (previous,x) +1.
+fn report_before(
     room: &mut [u8],
     p: Pairs,
     n: usize,
-    st: step::Step,
-    a: u32,
-    b: u32,
-    x: u32,
+    previous: Option<u32>,
+    rule: Rule,
     f: u64,
     w: usize,
 ) -> usize
-    requires { CanReport p n (reports_of a b x st) f (cells room.old) }
-    ensures { ReportDone p n (reports_of a b x st) f w (cells room.old) (cells room.new) result }
+    requires { CanSide p n (before rule.a rule.x (standing previous)) f (cells room.old) }
+    ensures { SideDone p n (before rule.a rule.x (standing previous)) f w (cells room.old) (cells room.new) result }
 {
-    let m = side(room, p, n, st.behind, st.previous, a, st.previous, x, f, w);
-    side(room, p, m, st.ahead, b, st.next, x, st.next, f, w)
+    match previous {
+        Some(s) => swap(room, p, n, (s, rule.a), (s, rule.x), f, w),
+        None => n,
+    }
+}
+
+// Where a symbol follows: (b,next) -1 and (x,next) +1.
+fn report_after(
+    room: &mut [u8],
+    p: Pairs,
+    n: usize,
+    next: Option<u32>,
+    rule: Rule,
+    f: u64,
+    w: usize,
+) -> usize
+    requires { CanSide p n (after rule.b rule.x (following next)) f (cells room.old) }
+    ensures { SideDone p n (after rule.b rule.x (following next)) f w (cells room.old) (cells room.new) result }
+{
+    match next {
+        Some(s) => swap(room, p, n, (rule.b, s), (rule.x, s), f, w),
+        None => n,
+    }
+}
+
+// The reports of one step in the word w, each f times.
+pub fn report(room: &mut [u8], p: Pairs, n: usize, st: Step, rule: Rule, f: u64, w: usize) -> usize
+    requires { CanReport p n (reports_of rule.a rule.b rule.x st) f (cells room.old) }
+    ensures { ReportDone p n (reports_of rule.a rule.b rule.x st) f w (cells room.old) (cells room.new) result }
+{
+    let m = report_before(room, p, n, st.behind, rule, f, w);
+    report_after(room, p, m, st.ahead, rule, f, w)
 }
