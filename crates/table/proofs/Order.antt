@@ -27,10 +27,10 @@ lt_below Less = refl
 lt_below Equal = refl
 lt_below Greater = refl
 
-pub below_lent : (from to end : ℕ) (ws : List ℕ) (o : Ordering) → o ≡ compared (take (to - from) (drop from ws)) (take (end - to) (drop to ws))
-    → is_lt o ≡ below (part from (to - from) ws) (part to (end - to) ws)
+pub below_lent : (from to end : ℕ) (ws : List ℕ) (o : Ordering) (b : Bool) → o ≡ compared (take (to - from) (drop from ws)) (take (end - to) (drop to ws))
+    → b ≡ is_lt o → b ≡ below (part from (to - from) ws) (part to (end - to) ws)
 unfolding below part
-below_lent from to end ws o e = lt_below o ∙ ap is_below e
+below_lent from to end ws o b e h = h ∙ lt_below o ∙ ap is_below e
 
 -- ENDS THAT ARE SHAPED rise, from the first and from the second on
 
