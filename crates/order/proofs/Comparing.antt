@@ -1,11 +1,11 @@
--- What the library answers at two runs is what `compared` and `same` say, and runs of two lengths are not the same. Assumes nothing.
+-- What the library answers at two runs is what `compared` and `same` say. Assumes nothing.
 use mathlib.Core.Path.{◌≡◌, refl, sym, ap, ◌∙◌}
 use mathlib.Core.Bool.{Bool, true, false, cond, ◌&&◌, true≢false}
 use mathlib.Core.List.{List, [], ◌∷◌}
-use Prim.Native.Nat.{ℕ, suc, ◌+◌, ◌-◌}
+use Prim.Native.Nat.{ℕ, ◌+◌, ◌-◌}
 use native.Mathlib.Omega.{arith}
 use lib.Dec.{eqb, ltb}
-use lib.ListN.{length, take, drop}
+use lib.ListN.{take, drop}
 use lib.Pointwise.{pointwise}
 use borrow.Author.Tests.{eqb-true, eq-eqb, ltb-true, ltb-false}
 use Rattle.std.specs.Prelude.{nat_eq}
@@ -43,14 +43,3 @@ same_std (x ∷ xs) (y ∷ ys) = ap (λ (b : Bool). eqb x y && b) (same_std xs y
 pub compare_lent : (r : Ordering) (xs : List ℕ) (at m from n : ℕ) → r ≡ compared (take (at + m - at) (drop at xs)) (take (from + n - from) (drop from xs))
     → r ≡ compared (part at m xs) (part from n xs)
 compare_lent r xs at m from n e = e ∙ rw (part_lent_on at m xs, part_lent_on from n xs)
-
-pub equal_lengths : (xs ys : List ℕ) → (length xs ≡ length ys → ⊥) → false ≡ same xs ys
-unfolding same
-equal_lengths [] [] n = absurd (n refl)
-equal_lengths [] (y ∷ ys) n = refl
-equal_lengths (x ∷ xs) [] n = refl
-equal_lengths (x ∷ xs) (y ∷ ys) n = go (eqb x y) (equal_lengths xs ys (λ e. n (ap suc e)))
-  where
-    go : (t : Bool) → false ≡ same xs ys → false ≡ (t && same xs ys)
-    go true e = e
-    go false e = refl

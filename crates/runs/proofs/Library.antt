@@ -11,7 +11,7 @@ use Rattle.runs.specs.Parts.{part, laid, zeros}
 use Rattle.runs.proofs.Parts.{length-part, length-zeros, part_lent_on}
 
 -- a write to `xs[at..at + n]`
-mid_laid : (xs ys : List ℕ) (at n : ℕ) → length ys ≡ n → put_mid at (at + n - at) xs ys ≡ laid xs at ys
+pub mid_laid : (xs ys : List ℕ) (at n : ℕ) → length ys ≡ n → put_mid at (at + n - at) xs ys ≡ laid xs at ys
 unfolding laid
 mid_laid xs ys at n l =
     let k : at + n - at ≡ length ys = omega (arith, l) in
