@@ -46,19 +46,23 @@ module _ (p q at n : ℕ) (cs : List ℕ) where
   count_few : n ≤ 1 → at + n ≤ length cs → count_in p q (symbols_at at n cs) ≡ 0
   count_few h l = count-short p q (symbols_at at n cs) (omega (arith, symbols_length at n cs l))
 
-module _ (p q start n : ℕ) (cs : List ℕ) where
-  pub hits_start : count_in p q (symbols_at start n cs) ≡ 0 + count_in p q (symbols_at start n cs)
-  hits_start = omega arith
+-- the loop, at the i-th symbol: what is to come begins with the symbol before it
+module _ (p q start n : ℕ) (cs : List ℕ) (room : start + n ≤ length cs) where
+  pub hits_start : count_in p q (symbols_at start n cs) ≡ 0 + count_in p q (symbols_at (start + 1 - 1) (n + 1 - 1) cs)
+  hits_start = let a : start + 1 - 1 ≡ start = omega arith in let b : n + 1 - 1 ≡ n = omega arith in rw (a, b) (omega arith)
 
-  module _ (at left hits : ℕ) (inv : count_in p q (symbols_at start n cs) ≡ hits + count_in p q (symbols_at at left cs)) (room : at + left ≤ length cs) where
-    pub hits-turn : 1 < left → (s t v : ℕ) → s ≡ symbol_in (nth cs at) → t ≡ symbol_in (nth cs (at + 1)) → Tested p q s t v
-        → count_in p q (symbols_at start n cs) ≡ hits + v + count_in p q (symbols_at (at + 1) (left - 1) cs)
+  module _ (i hits : ℕ) (inv : count_in p q (symbols_at start n cs) ≡ hits + count_in p q (symbols_at (start + i - 1) (n + 1 - i) cs)) (low : 1 ≤ i) where
+    pub hits-turn : i < n → (s t v : ℕ) → s ≡ symbol_in (nth cs (start + i - 1)) → t ≡ symbol_in (nth cs (start + i)) → Tested p q s t v
+        → count_in p q (symbols_at start n cs) ≡ hits + v + count_in p q (symbols_at (start + (i + 1) - 1) (n + 1 - (i + 1)) cs)
     hits-turn h s t v es et ev =
-        let e : v ≡ bit (is_pair p q (symbol_in (nth cs at)) (symbol_in (nth cs (at + 1)))) = rw (es, et) at ev.is in
-        omega (arith, count_two p q at left cs h room)
+        let at : start + i - 1 + 1 ≡ start + i = omega arith in
+        let next : start + (i + 1) - 1 ≡ start + i - 1 + 1 = omega arith in
+        let left : n + 1 - (i + 1) ≡ n + 1 - i - 1 = omega arith in
+        let e : v ≡ bit (is_pair p q (symbol_in (nth cs (start + i - 1))) (symbol_in (nth cs (start + i - 1 + 1)))) = rw (at, ← es, ← et) ev.is in
+        rw (next, left) (omega (arith, count_two p q (start + i - 1) (n + 1 - i) cs (omega arith) (omega arith)))
 
-    pub hits_end : left ≤ 1 → hits ≡ count_in p q (symbols_at start n cs)
-    hits_end h = omega (arith, count_few p q at left cs h room)
+    pub hits_end : n ≤ i → i ≤ n + 1 → hits ≡ count_in p q (symbols_at start n cs)
+    hits_end h m = omega (arith, count_few p q (start + i - 1) (n + 1 - i) cs (omega arith) (omega arith))
 
 -- THE WORDS OF A SET
 

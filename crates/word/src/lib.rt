@@ -25,6 +25,7 @@ pub struct Span {
 }
 
 // The symbol in a cell.
+#[tactic(auto, using(crate::proofs::Views::symbol_of))]
 pub fn symbol(room: &[u8], at: usize) -> u32
     requires { at < length (cells room.now) }
     ensures { result ≡ symbol_in (nth (cells room.now) at) }
@@ -56,6 +57,7 @@ pub fn word(room: &[u8], w: WordSet, k: usize) -> Span
 }
 
 // The frequency of word k.
+#[tactic(auto, using(crate::proofs::Sets::frequency_read))]
 pub fn frequency(room: &[u8], w: WordSet, k: usize) -> u64
     requires words { Words w (cells room.now) }
     requires k_lt_count { k < w.count }
