@@ -7,6 +7,7 @@ ghost use Rattle.cells.specs.Cells.{cells};
 ghost use Rattle.pairs.specs.View.{behind, key_in};
 ghost use Rattle.settling.specs.Settling.{CanSettle, SettleDone, cleared, CanSettleOne, OneSettled, gainer, CanWait, Waits};
 
+use marks::Mark;
 use pairs::Pairs;
 use queue::Candidate;
 
@@ -14,7 +15,7 @@ use queue::Candidate;
 fn clear(v: u8) -> u8
     ensures { result ≡ cleared v }
 {
-    marks::clear_gained(marks::clear_touched(v))
+    marks::clear(Mark::Gained, marks::clear(Mark::Touched, v))
 }
 
 // Adds e to the m candidates from the cell q on if its marks say that it has gained. Says how many there are then.
@@ -22,7 +23,7 @@ fn wait(room: &mut [u8], q: usize, m: usize, v: u8, e: Candidate) -> usize
     requires { CanWait q m (gainer v e) (cells room.old) }
     ensures { Waits q m (gainer v e) (cells room.old) (cells room.new) result }
 {
-    if marks::is_gained(v) {
+    if marks::is_set(Mark::Gained, v) {
         queue::push(room, q, m, e);
         return m + 1;
     }
@@ -35,8 +36,7 @@ fn settle_one(room: &mut [u8], p: Pairs, q: usize, m: usize, j: usize) -> usize
     ensures { OneSettled p q m (key_in p (cells room.old) (nth (cells room.old) (behind p + j)))
         (cells room.old) (cells room.new) result }
 {
-    let list = p.base + 2 * p.cap + 3 + p.most * 8 + 2 + 4 * p.most;
-    let r = cells::cell(room, list + j) as usize;
+    let r = cells::cell(room, p.touched() + j) as usize;
     let key = fields::key_of(room, p, r);
     let count = fields::count(room, p, key, r);
     if count == 0 {
@@ -55,10 +55,8 @@ pub fn settle(room: &mut [u8], p: Pairs, q: usize, m: usize, n: usize) -> usize
     ensures { SettleDone p q m n (cells room.old) (cells room.new) result }
 {
     let mut w = m;
-    let mut j = 0;
-    while j < n {
+    for j in 0..n {
         w = settle_one(room, p, q, w, j);
-        j += 1;
     }
     w
 }
