@@ -10,41 +10,18 @@ ghost use Rattle.rule.specs.Spelling.{leads, strip_prefix, joined};
 ghost use Rattle.spelling.specs.Lengths.{joined_length};
 ghost use Rattle.spelling.specs.Writing.{Written};
 
-// Tells whether a piece begins with a prefix.
-fn has_prefix(piece: &[u8], prefix: &[u8]) -> bool
-    ensures { result ≡ leads prefix.now piece.now }
-{
-    if piece.len() < prefix.len() {
-        return false;
-    }
-    let mut i = 0;
-    while i < prefix.len() {
-        if prefix[i] != piece[i] {
-            return false;
-        }
-        i += 1;
-    }
-    true
-}
-
 // The piece without its prefix, if it carries one: a part of the piece, and no part of the prefix.
 fn strip_prefix<'a, 'b>(piece: &'a [u8], prefix: &'b [u8]) -> &'a [u8]
     ensures { result.now ≡ strip_prefix prefix.now piece.now }
 {
-    if has_prefix(piece, prefix) {
-        let n = prefix.len();
-        &piece[n..]
-    } else {
-        piece
-    }
+    piece.strip_prefix(prefix).unwrap_or(piece)
 }
 
 // How many bytes of a piece are left without its prefix.
 fn stripped_length(piece: &[u8], prefix: &[u8]) -> usize
     ensures { (result ≡ length (strip_prefix prefix.now piece.now)) × (result ≤ length piece.now) }
 {
-    let rest = strip_prefix(piece, prefix);
-    rest.len()
+    strip_prefix(piece, prefix).len()
 }
 
 // Writes a unit with its decoration, and gives the place behind it.
