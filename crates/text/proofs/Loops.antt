@@ -6,7 +6,7 @@ use mathlib.Core.List.{List, [], ◌∷◌}
 use Prim.Native.Nat.{ℕ, suc, ◌+◌, ◌-◌, ◌≤◌, ◌<◌}
 use native.Mathlib.Omega.{arith}
 use lib.ListN.{length, take, drop, length-map}
-use borrow.Author.Tests.{not-true, not-false, eq-eqb, ne_eqb}
+use borrow.Author.Tests.{not-true, eq-eqb, ne_eqb}
 use Rattle.runs.specs.Parts.{part}
 use Rattle.runs.proofs.Parts.{length-part, part_lent}
 use Rattle.rfc3629.specs.Rows.{char_len}
@@ -16,10 +16,11 @@ use Rattle.rfc3629.proofs.Units.{well_nil, well_bad, well_next, unit_byte, unit_
 use Rattle.rfc3629.proofs.Texts.{cut_bytes, seeded_bytes, seeded-chars, seeded_few}
 use Rattle.rule.specs.Table.{chars}
 use Rattle.text.specs.Units.{setting_of, by_chars, Next, Counted}
-use Rattle.chars.specs.Places.{rest}
+use Rattle.std.specs.Prelude.{Some, None}
+use Rattle.chars.specs.Places.{rest, some_length}
 use Rattle.text.specs.declared.Seeding.{Seeding}
 use Rattle.text.specs.declared.Seeding.TheVariants.{Bytes, Chars}
-use Rattle.chars.proofs.Places.{rest-length, rest_end, rest_on, rest_all}
+use Rattle.chars.proofs.Places.{rest-length, rest_end, rest_on, rest_all, len_none, len_some}
 
 -- THE SEEDING OF A SETTING
 
@@ -40,16 +41,22 @@ module _ (w : List ℕ) (i : ℕ) (r : Bool) where
   pub well_end : r ≡ well_formed (rest i w) → length w ≤ i → true ≡ r
   well_end e h = sym (e ∙ rw (rest_end i w h, well_nil))
 
-module _ (w : List ℕ) (i k : ℕ) (t : k ≡ char_len (rest i w)) where
+module _ (w : List ℕ) (i : ℕ) (r : Bool) where
+  pub well_out : r ≡ well_formed (rest i w) → i < length w → None ≡ some_length (char_len (rest i w)) → false ≡ r
+  well_out e h t = sym (e ∙ well_bad (rest i w) (omega (arith, rest-length i w)) (sym (len_none (char_len (rest i w)) t)))
+
+module _ (w : List ℕ) (i k : ℕ) (t : Some k ≡ some_length (char_len (rest i w))) where
+  len_here : (k ≡ char_len (rest i w)) × (0 < k)
+  len_here = len_some k (char_len (rest i w)) t
+
   pub char_fits : i ≤ length w → i + k ≤ length w
-  char_fits h = let b = len_bounds (rest i w) in omega (arith, rest-length i w)
+  char_fits h = omega (arith, len_here.0, (len_bounds (rest i w)).0, rest-length i w)
 
-  module _ (r : Bool) where
-    pub well_out : r ≡ well_formed (rest i w) → i < length w → k ≡ 0 → false ≡ r
-    well_out e h z = sym (e ∙ well_bad (rest i w) (omega (arith, rest-length i w)) (sym t ∙ z))
+  pub char_on : i < i + k
+  char_on = omega (arith, len_here.1)
 
-    pub well_turn : r ≡ well_formed (rest i w) → (k ≡ 0 → ⊥) → r ≡ well_formed (rest (i + k) w)
-    well_turn e z = e ∙ well_next (rest i w) (omega arith) ∙ ap well_formed (rw (← t) (rest_on i w k))
+  pub well_turn : (r : Bool) → r ≡ well_formed (rest i w) → r ≡ well_formed (rest (i + k) w)
+  well_turn r e = e ∙ well_next (rest i w) (omega (arith, len_here.0, len_here.1)) ∙ ap well_formed (rw (← len_here.0) (rest_on i w k))
 
 -- COUNTING: the units passed and those to come are all of them
 
@@ -68,13 +75,15 @@ module _ (w : List ℕ) (i n : ℕ) where
       let z : length (units_by true (rest i w)) ≡ 0 = rw (rest_end i w h, units_nil true) in
       rw (← well_end w i (well_formed w) e h) (omega arith)
 
-module _ (w : List ℕ) (i k : ℕ) (t : k ≡ char_len (rest i w)) where
-  pub count-out : well_formed w ≡ well_formed (rest i w) → i < length w → k ≡ 0 → length w ≡ length (cut w)
-  count-out e h z = rw (cut_bytes w (sym (well_out w i k t (well_formed w) e h z))) (sym (singles-length w))
+pub count-out : (w : List ℕ) (i : ℕ) → well_formed w ≡ well_formed (rest i w) → i < length w → None ≡ some_length (char_len (rest i w))
+    → length w ≡ length (cut w)
+count-out w i e h t = rw (cut_bytes w (sym (well_out w i (well_formed w) e h t))) (sym (singles-length w))
 
-  pub count-turn : (n m : ℕ) → n + length (units_by true (rest i w)) ≡ m → (k ≡ 0 → ⊥) → n + 1 + length (units_by true (rest (i + k) w)) ≡ m
-  count-turn n m e z =
-      let l : unit_len true (rest i w) ≡ k = unit_char (rest i w) (omega arith) ∙ sym t in
+module _ (w : List ℕ) (i k : ℕ) (t : Some k ≡ some_length (char_len (rest i w))) where
+  pub count-turn : (n m : ℕ) → n + length (units_by true (rest i w)) ≡ m → n + 1 + length (units_by true (rest (i + k) w)) ≡ m
+  count-turn n m e =
+      let q : (k ≡ char_len (rest i w)) × (0 < k) = len_here w i k t in
+      let l : unit_len true (rest i w) ≡ k = unit_char (rest i w) (omega arith) ∙ sym q.0 in
       let u = ap length (units_next true (rest i w) (omega (arith, len_bounds (rest i w)))) in
       let v : length (units_by true (rest i w)) ≡ suc (length (units_by true (rest (i + k) w))) = rw (l, rest_on i w k) at u in
       omega arith
@@ -122,12 +131,14 @@ module _ (c : Bool) (s : List ℕ) (at to : ℕ) (a : at < to) (b : to ≤ lengt
   pub next_byte : not c ≡ true → Next c s at to (at + 1)
   next_byte h = next_is 1 (rw (not-true c h) (sym (unit_byte (part at (to - at) s))))
 
-  module _ (k : ℕ) (t : k ≡ char_len (rest 0 (take (to - at) (drop at s)))) where
-    len_lent : k ≡ char_len (part at (to - at) s)
-    len_lent = t ∙ rw (rest_all (take (to - at) (drop at s)), part_lent at to s)
+  lent : char_len (rest 0 (take (to - at) (drop at s))) ≡ char_len (part at (to - at) s)
+  lent = rw (rest_all (take (to - at) (drop at s)), part_lent at to s)
 
-    pub next_none : k ≡ 0 → Next c s at to (at + 1)
-    next_none z = next_is 1 (sym (unit_none c (part at (to - at) s) (sym len_lent ∙ z)))
+  pub next_none : None ≡ some_length (char_len (rest 0 (take (to - at) (drop at s)))) → Next c s at to (at + 1)
+  next_none t = next_is 1 (sym (unit_none c (part at (to - at) s) (sym lent ∙ sym (len_none _ t))))
 
-    pub next_char : not c ≡ false → (k ≡ 0 → ⊥) → Next c s at to (at + k)
-    next_char h z = next_is k (len_lent ∙ rw (not-false c h) (sym (unit_char (part at (to - at) s) (omega (arith, len_lent)))))
+  pub next_char : (k : ℕ) → c ≡ true → Some k ≡ some_length (char_len (rest 0 (take (to - at) (drop at s)))) → Next c s at to (at + k)
+  next_char k h t =
+      let q = len_some k (char_len (rest 0 (take (to - at) (drop at s)))) t in
+      let l : k ≡ char_len (part at (to - at) s) = q.0 ∙ lent in
+      next_is k (l ∙ rw h (sym (unit_char (part at (to - at) s) (omega (arith, q.1)))))

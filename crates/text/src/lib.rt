@@ -38,10 +38,9 @@ fn all_chars(word: &[u8]) -> bool
 {
     let mut i = 0;
     while i < word.len() {
-        let k = chars::char_len(word, i);
-        if k == 0 {
+        let Some(k) = chars::char_len(word, i) else {
             return false;
-        }
+        };
         i += k;
     }
     true
@@ -54,10 +53,9 @@ fn count_chars(word: &[u8]) -> usize
     let mut j = 0;
     let mut n = 0;
     while j < word.len() {
-        let k = chars::char_len(word, j);
-        if k == 0 {
+        let Some(k) = chars::char_len(word, j) else {
             return word.len();
-        }
+        };
         j += k;
         n += 1;
     }
@@ -102,9 +100,8 @@ pub fn next_unit(s: &[u8], at: usize, to: usize, whole: bool) -> usize
     if !whole {
         return at + 1;
     }
-    let k = chars::char_len(&s[at..to], 0);
-    if k == 0 {
-        return at + 1;
+    match chars::char_len(&s[at..to], 0) {
+        Some(k) => at + k,
+        None => at + 1,
     }
-    at + k
 }
