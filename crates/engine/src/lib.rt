@@ -10,7 +10,9 @@ ghost use Rattle.pairs.specs.View.{state};
 ghost use Rattle.pairs.specs.Pairs.{Has, Updated};
 ghost use Rattle.engine.specs.Engine.{CanStart, Started, CanJoin, JoinDone, CanClear, Cleared, Tidied};
 
+use marks::Mark;
 use pairs::Pairs;
+use step::Rule;
 use word::WordSet;
 
 // The queue has `waiting` candidates from the cell `queue` on, and at most `turns` entries are taken from it from here on.
@@ -30,7 +32,7 @@ fn clear(room: &mut [u8], p: Pairs)
     ensures { Cleared p (cells room.old) (cells room.new) }
 {
     cells::clear_cells(room, p.base, 2 * p.cap + 3);
-    cells::clear_cells(room, p.base + 2 * p.cap + 3 + p.most * 8, 2);
+    cells::clear_cells(room, p.lists(), 2);
 }
 
 // The pair that is merged counts as touched: it is not put on the list, and not released while its words are read.
@@ -41,7 +43,7 @@ fn mark(room: &mut [u8], p: Pairs, key: u64, r: usize)
         (cells room.old) (cells room.new) }
 {
     let m = fields::marks(room, p, key, r);
-    let touched = marks::set_touched(m);
+    let touched = marks::set(Mark::Touched, m);
     fields::set_marks(room, p, key, r, touched);
 }
 
@@ -63,38 +65,31 @@ pub fn start(room: &mut [u8], w: WordSet, p: Pairs, x: u32) -> Engine
 {
     clear(room, p);
     let n = census::count_pairs(room, w, p);
-    let q = p.base + 2 * p.cap + 3 + p.most * 8 + 2 + 4 * p.most + 2 * p.most;
-    let m = settling::settle(room, p, q, 0, n);
+    let queue = p.end();
     Engine {
         words: w,
         pairs: p,
-        queue: q,
-        waiting: m,
+        queue,
+        waiting: settling::settle(room, p, queue, 0, n),
         turns: 5 * w.live,
     }
 }
 
-// Makes (a,b) the symbol x in all words that hold it.
-pub fn join(room: &mut [u8], g: Engine, a: u32, b: u32, x: u32) -> Engine
-    requires { CanJoin g a b x (cells room.old) }
-    ensures { JoinDone g a b x (cells room.old) (cells room.new) result }
+// Makes the rule's pair its symbol in all words that hold it.
+pub fn join(room: &mut [u8], g: Engine, rule: Rule) -> Engine
+    requires { CanJoin g rule.a rule.b rule.x (cells room.old) }
+    ensures { JoinDone g rule.a rule.b rule.x (cells room.old) (cells room.new) result }
 {
     let p = g.pairs;
-    let w = g.words;
-    let key = states::key(a, b);
-    let v = pairs::find(room, p, key);
-    let r = (v - 1) as usize;
+    let key = states::key(rule.a, rule.b);
+    let r = pairs::find(room, p, key).unwrap();
     mark(room, p, key, r);
-    let d = joining::merge_words(room, w, p, r, a, b, x, 0);
+    let d = joining::merge_words(room, g.words, p, r, rule, 0);
     let waiting = settling::settle(room, p, g.queue, g.waiting, d.touched);
     pairs::remove(room, p, key);
-    let rewritten = d.words;
-    let words = tidy(room, rewritten);
     Engine {
-        words: words,
-        pairs: p,
-        queue: g.queue,
-        waiting: waiting,
-        turns: g.turns,
+        words: tidy(room, d.words),
+        waiting,
+        ..g
     }
 }
