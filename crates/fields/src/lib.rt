@@ -68,8 +68,7 @@ pub fn marks(room: &[u8], p: Pairs, key: u64, r: usize) -> u8
 // Sets its count.
 pub fn set_count(room: &mut [u8], p: Pairs, key: u64, r: usize, v: u64)
     requires { Has p key r (cells room.old) }
-    ensures { Updated p key r (record { count = v; marks = (state p (cells room.old) key).marks; words = (state p (cells room.old) key).words })
-        (cells room.old) (cells room.new) }
+    ensures { Updated p key r (record (state p (cells room.old) key) { count = v }) (cells room.old) (cells room.new) }
 {
     put(room, p, r, COUNT, v);
 }
@@ -77,8 +76,7 @@ pub fn set_count(room: &mut [u8], p: Pairs, key: u64, r: usize, v: u64)
 // Sets its marks.
 pub fn set_marks(room: &mut [u8], p: Pairs, key: u64, r: usize, v: u8)
     requires { Has p key r (cells room.old) }
-    ensures { Updated p key r (record { count = (state p (cells room.old) key).count; marks = v; words = (state p (cells room.old) key).words })
-        (cells room.old) (cells room.new) }
+    ensures { Updated p key r (record (state p (cells room.old) key) { marks = v }) (cells room.old) (cells room.new) }
 {
     put(room, p, r, MARKS, v as u64);
 }
