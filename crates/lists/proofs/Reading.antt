@@ -72,17 +72,20 @@ module _ (p : Pairs) (k r : ℕ) (cs : List ℕ) (h : Has p k r cs) where
     pub word_low : j < n
     word_low = omega (arith, words-many)
 
-    pub word_short : (x : ℕ) → n ≤ 4 → x ≡ nth cs (arena_at p + 3 + r * 8 + 4 + j) → x ≡ nth (state p cs k).words j
-    word_short x f q = q ∙ sym (rw (words-short (omega arith)) (nth-part _ _ cs j (omega (arith, word_low))))
+    pub word_short : (x : ℕ) → n ≤ 4 → x ≡ field (arena_at p) cs r (4 + j) → x ≡ nth (state p cs k).words j
+    word_short x f q =
+        q
+        ∙ sym (near_cell p r cs (has_live p k r cs h) j)
+        ∙ sym (rw (words-short (omega arith)) (nth-part _ _ cs j (omega (arith, word_low))))
+
+    pub short_low : n ≤ 4 → 4 + j < 8
+    short_low f = omega (arith, word_low)
 
     pub word_long_lem : (x at : ℕ) → 4 < n → at ≡ place p cs r → x ≡ nth cs (data_at p + at + j) → x ≡ nth (state p cs k).words j
     word_long_lem x at f a q = q ∙ sym (rw (words_long (omega arith), a) (nth-part _ _ cs j (omega (arith, word_low))))
 
     pub long_room : (at : ℕ) → 4 < n → at ≡ place p cs r → data_at p + at + j < length cs
     long_room at f a = omega (arith, word_low, run_fits (omega arith))
-
-    pub short_room : n ≤ 4 → arena_at p + 3 + r * 8 + 4 + j < length cs
-    short_room f = omega (arith, word_low, short_fits (omega arith))
 
   -- THE LAST ONE
   pub last_low : (n : ℕ) → n ≡ many p cs r → (n ≡ 0 → ⊥) → n - 1 < length (state p cs k).words

@@ -9,6 +9,7 @@ ghost use Rattle.pairs.specs.View.{state};
 ghost use Rattle.pairs.specs.Pairs.{Has};
 ghost use Rattle.lists.specs.Lists.{kind_of, length_of, Loaded};
 
+use fields::{FIRST, MANY, PLACE};
 use pairs::Pairs;
 
 // Which kind of list, and how many words. An enum holds no array: the short words stand beside it, the long list at the place.
@@ -42,9 +43,10 @@ fn kind(n: u64, place: u64) -> WordList
     ensures { result ≡ kind_of n place }
 {
     if n <= 4 {
-        return WordList::Short(n);
+        WordList::Short(n)
+    } else {
+        WordList::Spilled(place, n)
     }
-    WordList::Spilled(place, n)
 }
 
 // The state of a pair that has the record r.
@@ -52,19 +54,18 @@ fn load(room: &[u8], p: Pairs, key: u64, r: usize) -> PairState
     requires { Has p key r (cells room.now) }
     ensures { Loaded p key (cells room.now) result }
 {
-    let at = p.base + 2 * p.cap;
-    let n = records::get_field(room, at, p.most, r, 3);
-    let a = records::get_field(room, at, p.most, r, 4);
-    let b = records::get_field(room, at, p.most, r, 5);
-    let c = records::get_field(room, at, p.most, r, 6);
-    let d = records::get_field(room, at, p.most, r, 7);
+    let n = fields::get(room, p, r, MANY);
+    let a = fields::get(room, p, r, FIRST);
+    let b = fields::get(room, p, r, FIRST + 1);
+    let c = fields::get(room, p, r, FIRST + 2);
+    let d = fields::get(room, p, r, FIRST + 3);
     let count = fields::count(room, p, key, r);
     let marks = fields::marks(room, p, key, r);
     let words = kind(n, a);
     PairState {
-        count: count,
-        marks: marks,
-        words: words,
+        count,
+        marks,
+        words,
         near: [a, b, c, d],
     }
 }
@@ -74,13 +75,12 @@ pub fn word_at(room: &[u8], p: Pairs, key: u64, r: usize, j: usize) -> u64
     requires { (Has p key r (cells room.now)) × (j < length (state p (cells room.now) key).words) }
     ensures { result ≡ nth (state p (cells room.now) key).words j }
 {
-    let at = p.base + 2 * p.cap;
-    let n = records::get_field(room, at, p.most, r, 3);
+    let n = fields::get(room, p, r, MANY);
     if n <= 4 {
-        return cells::cell(room, at + 3 + r * 8 + 4 + j);
+        return fields::get(room, p, r, FIRST + j);
     }
-    let place = records::get_field(room, at, p.most, r, 4) as usize;
-    cells::cell(room, at + 3 + p.most * 8 + 2 + place + j)
+    let place = fields::get(room, p, r, PLACE) as usize;
+    cells::cell(room, p.words() + place + j)
 }
 
 // How many words its list has.

@@ -8,5 +8,5 @@ ruleset laws = (kind_short, kind_long, rules)
 pub returns-then-n-le4 : goal.returns-then-n-le4
 returns-then-n-le4 c = search laws
 
-pub returns : goal.returns
-returns c = search laws
+pub returns-else-n-le4 : goal.returns-else-n-le4
+returns-else-n-le4 c = search laws
