@@ -123,13 +123,7 @@ fn add(
         return Err(NoRoom);
     }
     let hash = spells::hash_three(spelling);
-    let end = spelling::decorate(
-        pieces,
-        used,
-        spelling.prefix,
-        spelling.unit,
-        spelling.suffix,
-    );
+    let end = spelling::decorate(pieces, used, spelling);
     numbers::store4(ends, count * 4, end as u32);
     cells::put_cell(
         room,

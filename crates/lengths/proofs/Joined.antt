@@ -15,7 +15,7 @@ use Rattle.spelling.proofs.Lengths.{joined_long}
 use Rattle.intern.specs.Pieces.{pieces, Held}
 use Rattle.intern.proofs.Rooms.{piece_part, pieces_at}
 use Rattle.lengths.specs.Places.{Stands}
-use Rattle.lengths.specs.declared.Place.{Place}
+use Rattle.vocab.specs.declared.Place.{Place}
 
 -- A PIECE OF THE ROOMS, at its place
 module _ {n u k : ℕ} {xs ys : List ℕ} {p : Place} (l : Held n u xs ys) (h : k < n) (s : Stands k ys p) where

@@ -1,7 +1,7 @@
 -- Where a piece stands: from its start on, up to the next one's start.
 use Rattle.std.specs.Prelude.{◌≡◌, List, ℕ, ◌+◌}
 use Rattle.rule.specs.Layout.{piece_start}
-use Rattle.lengths.specs.declared.Place.{Place}
+use Rattle.vocab.specs.declared.Place.{Place}
 
 pub record Stands (k : ℕ) (ys : List ℕ) (p : Place) : Type 0 where
   pub start_is : p.start ≡ piece_start ys k

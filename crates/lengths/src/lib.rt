@@ -9,14 +9,7 @@ ghost use Rattle.intern.specs.Pieces.{Held};
 ghost use Rattle.intern.specs.Pieces as rooms;
 ghost use Rattle.lengths.specs.Places.{Stands};
 
-use vocab::Filled;
-
-// The part of the pieces that a piece is.
-#[derive(Clone, Copy)]
-pub struct Place {
-    pub start: usize,
-    pub length: usize,
-}
+use vocab::{Filled, Place};
 
 // Where the k-th piece stands.
 pub fn place_of(ends: &[u8], k: u32) -> Place

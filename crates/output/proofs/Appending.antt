@@ -19,7 +19,7 @@ use Rattle.intern.specs.Intern.{Lacks}
 use Rattle.intern.proofs.Rooms.{pieces-more, pieces-same, more_bytes, more_ends, more_old, more_new, more_held}
 use Rattle.error.specs.declared.NoRoom.{NoRoom}
 use Rattle.lengths.specs.Places.{Stands}
-use Rattle.lengths.specs.declared.Place.{Place}
+use Rattle.vocab.specs.declared.Place.{Place}
 use Rattle.lengths.proofs.Joined.{place_in, piece_is, measured}
 use Rattle.output.specs.Output.{PieceDone, MergeDone}
 

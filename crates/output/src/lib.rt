@@ -41,15 +41,7 @@ pub fn append_piece(
     }
     let before = lengths::place_of(ends, left);
     let behind = lengths::place_of(ends, right);
-    let end = spelling::join(
-        pieces,
-        filled.used,
-        before.start,
-        before.length,
-        behind.start,
-        behind.length,
-        prefix,
-    );
+    let end = spelling::join(pieces, filled.used, before, behind, prefix);
     numbers::store4(ends, filled.count * 4, end as u32);
     Ok(end)
 }
