@@ -9,6 +9,7 @@ ghost use Rattle.pairs.specs.View.{state};
 ghost use Rattle.pairs.specs.Pairs.{Has};
 ghost use Rattle.notes.specs.Notes.{with_note, with_more, CanNote, Noted, AddShort, AddLong, Ready, CanMove, MovedList};
 
+use fields::{CAPACITY, FIRST, MANY, PLACE};
 use pairs::Pairs;
 
 // Whether the word noted last is w.
@@ -16,12 +17,11 @@ fn seen(room: &[u8], p: Pairs, key: u64, r: usize, w: u64) -> bool
     requires { Has p key r (cells room.now) }
     ensures { result ≡ last_is w (state p (cells room.now) key).words }
 {
-    let n = records::get_field(room, p.base + 2 * p.cap, p.most, r, 3) as usize;
+    let n = fields::get(room, p, r, MANY) as usize;
     if n == 0 {
         return false;
     }
-    let x = lists::word_at(room, p, key, r, n - 1);
-    x == w
+    lists::word_at(room, p, key, r, n - 1) == w
 }
 
 // Puts a word behind the n < 4 that stand in the record: first it stands there, then it counts.
@@ -29,10 +29,9 @@ fn add_short(room: &mut [u8], p: Pairs, key: u64, r: usize, n: usize, w: u64)
     requires { AddShort p key r n (cells room.old) }
     ensures { Noted p key r (with_more w (state p (cells room.old) key)) (cells room.old) (cells room.new) }
 {
-    let at = p.base + 2 * p.cap;
-    records::put_field(room, at, p.most, r, 4 + n, w);
+    fields::put(room, p, r, FIRST + n, w);
     let more = (n + 1) as u64;
-    records::put_field(room, at, p.most, r, 3, more);
+    fields::put(room, p, r, MANY, more);
 }
 
 // Moves the n words from the cell `from` on into a new run of `size` cells, which the record has from now on.
@@ -40,13 +39,12 @@ fn move_list(room: &mut [u8], p: Pairs, key: u64, r: usize, from: usize, n: usiz
     requires { CanMove p key r from n size (cells room.old) }
     ensures { MovedList p r from n size (cells room.old) (cells room.new) }
 {
-    let at = p.base + 2 * p.cap;
-    let lists = at + 3 + p.most * 8;
+    let lists = p.lists();
     let top = cells::cell(room, lists) as usize;
     cells::copy_cells(room, lists + 2 + top, from, n);
     cells::put_cell(room, lists, (top + size) as u64);
-    records::put_field(room, at, p.most, r, 4, top as u64);
-    records::put_field(room, at, p.most, r, 5, size as u64);
+    fields::put(room, p, r, PLACE, top as u64);
+    fields::put(room, p, r, CAPACITY, size as u64);
 }
 
 // Sees to it that the n words stand in a run that has space for one more.
@@ -54,15 +52,15 @@ fn widen(room: &mut [u8], p: Pairs, key: u64, r: usize, n: usize)
     requires { AddLong p key r n (cells room.old) }
     ensures { Ready p key r n (cells room.old) (cells room.new) }
 {
-    let at = p.base + 2 * p.cap;
     if n == 4 {
-        move_list(room, p, key, r, at + 3 + r * 8 + 4, 4, 8);
+        let near = p.records() + 3 + r * 8 + FIRST;
+        move_list(room, p, key, r, near, 4, 8);
         return;
     }
-    let size = records::get_field(room, at, p.most, r, 5) as usize;
+    let size = fields::get(room, p, r, CAPACITY) as usize;
     if n == size {
-        let place = records::get_field(room, at, p.most, r, 4) as usize;
-        move_list(room, p, key, r, at + 3 + p.most * 8 + 2 + place, n, 2 * n);
+        let place = fields::get(room, p, r, PLACE) as usize;
+        move_list(room, p, key, r, p.words() + place, n, 2 * n);
     }
 }
 
@@ -72,10 +70,9 @@ fn add_long(room: &mut [u8], p: Pairs, key: u64, r: usize, n: usize, w: u64)
     ensures { Noted p key r (with_more w (state p (cells room.old) key)) (cells room.old) (cells room.new) }
 {
     widen(room, p, key, r, n);
-    let at = p.base + 2 * p.cap;
-    let place = records::get_field(room, at, p.most, r, 4) as usize;
-    cells::put_cell(room, at + 3 + p.most * 8 + 2 + place + n, w);
-    records::put_field(room, at, p.most, r, 3, (n + 1) as u64);
+    let place = fields::get(room, p, r, PLACE) as usize;
+    cells::put_cell(room, p.words() + place + n, w);
+    fields::put(room, p, r, MANY, (n + 1) as u64);
 }
 
 // Notes the word w in the list of a pair, unless it was noted last.
@@ -86,7 +83,7 @@ pub fn note(room: &mut [u8], p: Pairs, key: u64, r: usize, w: u64)
     if seen(room, p, key, r, w) {
         return;
     }
-    let n = records::get_field(room, p.base + 2 * p.cap, p.most, r, 3) as usize;
+    let n = fields::get(room, p, r, MANY) as usize;
     if n < 4 {
         add_short(room, p, key, r, n, w);
     } else {
