@@ -1,6 +1,5 @@
 -- The laws of visiting the words of a pair's list: how many at a time, a word, one stretch of the list behind another, the end, where no word holds the
 -- pair. Assumes nothing.
-use borrow.Author.Tests.{lt-ltb, le-ltb}
 use mathlib.Core.Path.{◌≡◌, refl, sym, ap, ◌∙◌}
 use mathlib.Core.List.{List}
 use Prim.Native.Nat.{ℕ, ◌+◌, ◌-◌, ◌^◌, ◌<◌, ◌≤◌}
@@ -33,19 +32,8 @@ use Rattle.joining.proofs.Words.{frequency_change, rewrite_twice, rewrite_all_no
 
 -- HOW MANY AT A TIME
 module _ {n : ℕ} where
-  pub together_all : n < 16 → n ≡ together n
-  unfolding together
-  together_all l = rw (lt-ltb n 16 l)
-
-  pub together-part : 16 ≤ n → 16 ≡ together n
-  unfolding together
-  together-part l = rw (le-ltb n 16 l)
-
   pub together-within : {m : ℕ} → m ≡ together n → (m ≤ n) × (m ≤ 16) × (0 < n → 0 < m)
-  together-within e =
-      below_or_not n 16
-      (λ l. let t = together_all l in (omega arith, omega arith, λ h. omega arith))
-      (λ l. let t = together-part l in (omega arith, omega arith, λ h. omega arith))
+  together-within e = (omega arith, omega arith, λ h. omega arith)
 
 -- as the code has the pair's key, c, and how many words its list has
 module _ {k c : ℕ} (e : c ≡ k) (p : Pairs) (cs : List ℕ) where
