@@ -1,5 +1,5 @@
 -- The laws of counting a pair. Assumes nothing.
-use mathlib.Core.Path.{◌≡◌, refl, sym, ap}
+use mathlib.Core.Path.{◌≡◌, refl}
 use mathlib.Core.List.{List, [], ◌∷◌}
 use Prim.Native.Nat.{ℕ, ◌+◌, ◌-◌, ◌*◌, ◌^◌, ◌≤◌, ◌<◌}
 use native.Mathlib.Omega.{arith}
@@ -10,24 +10,12 @@ use Rattle.rule.specs.Rewriting.{bit, is_pair, link, count_in}
 use Rattle.rule.specs.Seeding.{Entry}
 use Rattle.rule.specs.Training.{count}
 use Rattle.rule.specs.Sums.{symbols_in}
-use Rattle.rule.proofs.Rewriting.{pair_hit, pair_miss}
 use Rattle.rule.proofs.Counts.{count-length}
 use Rattle.word.specs.Layout.{symbol_in, symbols_at, entry_at, Found, words_in}
 use Rattle.word.specs.declared.WordSet.{WordSet}
 use Rattle.word.specs.declared.Span.{Span}
 use Rattle.word.proofs.Views.{symbols_length, symbols_two, symbols_next, corpus-length, drop_entry}
 use Rattle.counting.specs.Counting.{Tested, Counted}
-
--- A PAIR, as a number
-module _ (s t p q : ℕ) where
-  pub hit_both : s ≡ p → t ≡ q → Tested p q s t 1
-  hit_both e f = record { is = sym (ap bit (pair_hit p q s t e f)); few = omega arith }
-
-  pub hit_not_left : (s ≡ p → ⊥) → Tested p q s t 0
-  hit_not_left e = record { is = sym (ap bit (pair_miss p q s t (λ h _. e h))); few = omega arith }
-
-  pub hit_not_right : (t ≡ q → ⊥) → Tested p q s t 0
-  hit_not_right e = record { is = sym (ap bit (pair_miss p q s t (λ _ h. e h))); few = omega arith }
 
 -- THE POSITIONS OF A WORD
 

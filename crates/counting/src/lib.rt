@@ -12,7 +12,6 @@ ghost use Rattle.counting.specs.Counting.{Tested, Counted};
 use word::WordSet;
 
 // 1 where (s,t) is (p,q), else 0.
-#[tactic(auto, using(crate::proofs::Counts::hit_both, crate::proofs::Counts::hit_not_left, crate::proofs::Counts::hit_not_right))]
 fn hit(s: u32, t: u32, p: u32, q: u32) -> u64
     ensures { Tested p q s t result }
 {

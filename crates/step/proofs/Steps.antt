@@ -1,50 +1,18 @@
 -- A step at the front of a word, and the definitions at the rest of the word. Assumes nothing.
-use mathlib.Core.Path.{◌≡◌, refl, sym, ◌∙◌}
-use mathlib.Core.Bool.{Bool, true, false, false≢true}
+use mathlib.Core.Path.{◌≡◌, refl}
+use mathlib.Core.Bool.{Bool, true, false}
 use mathlib.Core.List.{List, [], ◌∷◌, ◌++◌}
 use mathlib.Core.Option as maybe
 use Prim.Native.Nat.{ℕ, ◌≤◌, ◌<◌}
 use native.Mathlib.Omega.{arith}
 use lib.ListN.{length}
-use borrow.Author.Tests.{eqb-true, eq-eqb}
-use Rattle.std.specs.Prelude.{Option, Some, None, nat_eq, slice_get}
-use Rattle.std.specs.Option.{option_eq}
+use Rattle.std.specs.Prelude.{Option, slice_get}
 use Rattle.runs.specs.Parts.{nth}
 use Rattle.rule.specs.Rewriting.{is_pair, one, hit, cut, out, hits, before, after}
-use Rattle.rule.proofs.Rewriting.{src-cut, pair_hit, pair_miss}
+use Rattle.rule.proofs.Rewriting.{src-cut}
 use Rattle.rule.proofs.Reports.{reports_hit, reports_one}
 use Rattle.step.specs.Step.{rewrites_to, keeps, starts_pair, step_by, step_of, standing, reports_of, StepAt}
 use Rattle.step.specs.declared.Step.{Step}
-
--- THE WAYS THROUGH `decide`
-module _ (a b x : ℕ) (previous : Option ℕ) (s : ℕ) (t u : Option ℕ) where
-  pub by_hit : s ≡ a → true ≡ option_eq nat_eq t (Some b) → rewrites_to x previous u ≡ step_by a b x previous s t u
-  unfolding step_by starts_pair
-  by_hit p q = rw (starts t q)
-    where
-      starts : (t : Option ℕ) → true ≡ option_eq nat_eq t (Some b) → starts_pair a b s t ≡ true
-      starts None e = cc
-      starts (Some t) e = pair_hit a b s t p (eqb-true t b (sym e))
-
-  miss : starts_pair a b s t ≡ false → keeps s ≡ step_by a b x previous s t u
-  unfolding step_by
-  miss e = rw e
-
-  pub by_left : (s ≡ a → ⊥) → keeps s ≡ step_by a b x previous s t u
-  unfolding starts_pair
-  by_left p = miss (starts t)
-    where
-      starts : (t : Option ℕ) → starts_pair a b s t ≡ false
-      starts None = refl
-      starts (Some t) = pair_miss a b s t (λ e _. p e)
-
-  pub by_right : false ≡ option_eq nat_eq t (Some b) → keeps s ≡ step_by a b x previous s t u
-  unfolding starts_pair
-  by_right q = miss (starts t q)
-    where
-      starts : (t : Option ℕ) → false ≡ option_eq nat_eq t (Some b) → starts_pair a b s t ≡ false
-      starts None e = refl
-      starts (Some t) e = pair_miss a b s t (λ _ f. false≢true (e ∙ eq-eqb t b f))
 
 -- A STEP AT THE FRONT OF A WORD
 module _ (a b x : ℕ) (previous : Option ℕ) where

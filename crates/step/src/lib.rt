@@ -30,7 +30,7 @@ pub struct Step {
 // The step where s, t and u are the next symbols to be read, as far as there are any. `previous` is
 // the symbol that stands before in the rewritten word, if any, not in the old one: that symbol may
 // be gone by now.
-#[tactic(auto, using(crate::proofs::Steps::by_hit, crate::proofs::Steps::by_left, crate::proofs::Steps::by_right))]
+#[tactic(auto, unfolding(crate::specs::Step::step_by, crate::specs::Step::starts_pair))]
 pub fn decide(rule: Rule, previous: Option<u32>, s: u32, t: Option<u32>, u: Option<u32>) -> Step
     ensures { result ≡ step_by rule.a rule.b rule.x previous s t u }
 {
