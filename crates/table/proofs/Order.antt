@@ -15,7 +15,7 @@ use Rattle.rule.specs.Shapes.{rise_to, shaped, parts, parts_by, is_below, below}
 use Rattle.rule.specs.Refusals.{not_above, misplaced}
 use Rattle.vocab.specs.Places.{numbers_from}
 use Rattle.vocab.proofs.Places.{parts_start, parts_step, parts_end}
-use Rattle.vocab.proofs.Shaped.{shaped_rises, risen_rest}
+use Rattle.vocab.proofs.Shaped.{shaped_rises, risen_up, risen_under, risen_rest}
 use Rattle.table.specs.Answers.{first_place}
 use Rattle.table.proofs.Rows.{place_from, place_start, place_here, place_later, place_end}
 
@@ -69,3 +69,5 @@ module _ (ws es : List ℕ) where
       pub low_turn : not b ≡ false → k ≡ low_from ws to e es (i + 1)
       unfolding low_from
       low_turn t = inv ∙ here ∙ place_later _ _ _ t
+
+pub ruleset low_rules = (risen_up, risen_under, risen_rest, shaped_second, low_start, low_out, low_turn, low_end)

@@ -91,13 +91,13 @@ sound ws es fs al ae seeding b e h =
 -- ROW 2
 
 module _ (words size bytes symbols symbolBytes prefix suffix : ℕ) where
-  pub many-words : 16777216 < words → true ≡ too_many words size bytes symbols symbolBytes prefix suffix
+  pub many_words : 16777216 < words → true ≡ too_many words size bytes symbols symbolBytes prefix suffix
   unfolding too_many
-  many-words h = sym (some_here _ _ (lt-ltb 16777216 words h))
+  many_words h = sym (some_here _ _ (lt-ltb 16777216 words h))
 
-  pub many-pieces : 16777216 < size → true ≡ too_many words size bytes symbols symbolBytes prefix suffix
+  pub many_pieces : 16777216 < size → true ≡ too_many words size bytes symbols symbolBytes prefix suffix
   unfolding too_many
-  many-pieces h = sym (some_later _ _ (some_here _ _ (lt-ltb 16777216 size h)))
+  many_pieces h = sym (some_later _ _ (some_here _ _ (lt-ltb 16777216 size h)))
 
   pub many_bytes : 268435456 < bytes → true ≡ too_many words size bytes symbols symbolBytes prefix suffix
   unfolding too_many
@@ -126,6 +126,8 @@ module _ (words size bytes symbols symbolBytes prefix suffix : ℕ) where
       ∙ some_rest _ _ (le-ltb 1048576 symbolBytes h₅)
       ∙ some_rest _ _ (le-ltb 255 prefix h₆)
       ∙ some_single (ltb 255 suffix))
+
+pub ruleset many_rules = (many_words, many_pieces, many_bytes, many_symbols, many_symbol_bytes, many_prefix, many_end)
 
 -- what holds of numbers that it does not refuse
 pub record Limits (words size bytes symbols symbolBytes prefix suffix : ℕ) : Type 0 where
@@ -202,3 +204,5 @@ module _ (fs : List ℕ) where
     pub zero_end : length fs / 8 ≤ i → None ≡ k
     unfolding zero_from
     zero_end h = sym (inv ∙ rw (numbers_end 8 fs i h) (place_end i))
+
+pub ruleset zero_rules = (zero_start, zero_out, zero_turn, zero_end)

@@ -62,6 +62,8 @@ module _ (weight f u : ℕ) (h : weight ≤ 2 ^ 53) where
     pub heavier_sum : f ≤ (2 ^ 53 - weight) / u → Heavier weight f u (weight + f * u)
     heavier_sum k = record { is = sym (capped_low (weight + f * u) (heavier_fits k)); low = heavier_fits k }
 
+pub ruleset heavier_rules = (heavier_none, heavier_top, heavier_fits, heavier_sum)
+
 -- A PASS OVER THE WORDS: the whole weight and all units are those so far and those from the i-th word on, which starts at `last`
 
 unfoldable pub weight_from : ℕ → List ℕ → List ℕ → List ℕ → ℕ → ℕ → ℕ

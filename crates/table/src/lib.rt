@@ -59,6 +59,7 @@ const MOST_AFFIX_BYTES: usize = 255;
 const TOO_HEAVY: u64 = 9007199254740992;
 
 // The i-th frequency.
+#[tactic(auto, using(vocab::proofs::Places::number_load))]
 fn frequency_at(frequencies: &[u8], i: usize) -> u64
     requires { i < length frequencies.now / 8 }
     ensures { result ≡ nth (numbers 8 frequencies.now) i }
@@ -87,6 +88,7 @@ fn bad_shape(t: Table) -> bool
 }
 
 // Row 2: a number is over its limit.
+#[tactic(auto, using(crate::proofs::Rows::many_rules))]
 fn too_many(t: Table, vocab_size: u64) -> bool
     ensures { result ≡ too_many (length t.entry.word_ends.now / 4) vocab_size (length t.entry.words.now)
         (length t.entry.alphabet_ends.now / 4) (length t.entry.alphabet.now) (length t.entry.prefix.now)
@@ -114,6 +116,7 @@ fn too_many(t: Table, vocab_size: u64) -> bool
 }
 
 // Row 4: the first frequency that is 0.
+#[tactic(auto, using(crate::proofs::Rows::zero_rules))]
 fn first_zero(frequencies: &[u8]) -> Option<usize>
     ensures { result ≡ first_place (no_frequency frequencies.now) }
 {
@@ -126,6 +129,7 @@ fn first_zero(frequencies: &[u8]) -> Option<usize>
 }
 
 // Tells whether the word from `from` to `to` is below the one after it, which ends at `end`.
+#[tactic(auto, using(crate::proofs::Order::below_lent))]
 fn goes_up(words: &[u8], from: usize, to: usize, end: usize) -> bool
     requires { (from ≤ to) × (to ≤ end) × (end ≤ length words.now) }
     ensures { result ≡ below (part from (to - from) words.now) (part to (end - to) words.now) }
@@ -134,6 +138,7 @@ fn goes_up(words: &[u8], from: usize, to: usize, end: usize) -> bool
 }
 
 // Row 5: the first word that is not above the one before it.
+#[tactic(auto, using(crate::proofs::Order::low_rules))]
 fn first_low(words: &[u8], ends: &[u8]) -> Option<usize>
     requires { (0 < length ends.now / 4) × (shaped words.now ends.now ≡ true) }
     ensures { result ≡ first_place (misplaced words.now ends.now) }
@@ -152,6 +157,7 @@ fn first_low(words: &[u8], ends: &[u8]) -> Option<usize>
 }
 
 // How many units the word from `from` to `to` has.
+#[tactic(auto, using(crate::proofs::Weighing::units_counted))]
 fn units_in(words: &[u8], from: usize, to: usize, seeding: u64) -> u64
     requires { (from ≤ to) × (to ≤ length words.now) }
     ensures { UnitsIn seeding words.now from to result }
@@ -160,6 +166,7 @@ fn units_in(words: &[u8], from: usize, to: usize, seeding: u64) -> u64
 }
 
 // A weight with one word more, up to the number that is too heavy.
+#[tactic(auto, using(crate::proofs::Weighing::heavier_rules))]
 fn heavier(weight: u64, frequency: u64, units: u64) -> u64
     requires { weight ≤ 2 ^ 53 }
     ensures { Heavier weight frequency units result }
@@ -203,6 +210,7 @@ fn weigh(t: Table) -> Weighed
 }
 
 // Row 7: the bytes that the work room must have.
+#[tactic(auto, unfolding(rule::specs::Table::room_for))]
 fn room_needed(units: u64, symbols: usize) -> u64
     requires { (units ≤ 268435456) × (symbols ≤ 65536) }
     ensures { result ≡ room_for units symbols }

@@ -24,6 +24,7 @@ pub struct Filled {
 }
 
 // The i-th end.
+#[tactic(auto, using(crate::proofs::Places::number_load))]
 pub fn end_at(ends: &[u8], i: usize) -> usize
     requires { i < length ends.now / 4 }
     ensures { result ≡ nth (numbers 4 ends.now) i }
@@ -32,6 +33,7 @@ pub fn end_at(ends: &[u8], i: usize) -> usize
 }
 
 // Where piece n starts: at the end before it, the first at 0.
+#[tactic(auto, using(crate::proofs::Reading::start_later, rule::proofs::Reading::start_first))]
 pub fn piece_start(ends: &[u8], n: usize) -> usize
     requires { n * 4 ≤ length ends.now }
     ensures { result ≡ piece_start ends.now n }
@@ -59,6 +61,7 @@ fn rises(ends: &[u8], bytes: usize) -> bool
 
 // Tells whether bytes and their ends have the shape of a table: whole ends that rise to the last
 // byte.
+#[tactic(auto, using(crate::proofs::Shaped::shaped_not, crate::proofs::Shaped::shaped_by))]
 pub fn is_shaped(bytes: &[u8], ends: &[u8]) -> bool
     ensures { result ≡ shaped bytes.now ends.now }
 {
