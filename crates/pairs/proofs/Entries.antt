@@ -11,7 +11,7 @@ use Rattle.runs.proofs.Frames.{kept_then, kept_wide}
 use Rattle.index.specs.Index.{CanInsert, Inserted, SameIndex}
 use Rattle.index.proofs.Clients.{index-kept}
 use Rattle.records.specs.Records.{field, SameArena}
-use Rattle.arena.specs.Claims.{CanClaim, Alloc}
+use Rattle.arena.specs.Claims.{Alloc}
 use Rattle.records.proofs.Frames.{arena_kept}
 use Rattle.states.specs.State.{blank}
 use Rattle.pairs.specs.View.{arena_at, lists_at, behind, record_of, key_in, many, words_of, record_state, state, top, made, credit, spent}
@@ -34,9 +34,6 @@ credit-free p cs r e = rw e
 
 -- A RECORD TAKEN AND ENTERED
 module _ (p : Pairs) (k r : ℕ) (cs ds : List ℕ) (c : CanMake p k cs) where
-  pub can_claim : CanClaim (arena_at p) p.most k cs
-  can_claim = record { ar = c.ok.ar; pos = c.pos; space = omega (arith, c.few, c.ok.bound) }
-
   module _ (a : Alloc (arena_at p) p.most k r cs ds) where
     make_index : SameIndex p.base p.cap cs ds
     make_index = index-kept p.base p.cap _ _ cs ds c.ok.ix a.only.kept (inl (omega arith))
@@ -131,19 +128,3 @@ module _ (p : Pairs) (k : ℕ) (cs ds : List ℕ) (c : CanEnter p k cs) (a : Ask
         more = a.more;
         less = omega (arith, a.less);
       }
-
-  module _ (z : record_of p ds k ≡ 0) where
-    pub can_make : CanMake p k ds
-    can_make = record { ok = a.ok; pos = c.pos; none = z; slots = a.slots; few = a.few }
-
-    pub entered_new : (r : ℕ) (es : List ℕ) → Made p k r ds es → Entered p k r cs es
-    entered_new r es m =
-        record {
-          has = m.has;
-          states = λ q h. m.states q h ∙ a.states q h;
-          records = λ q h n. m.records q h n ∙ a.records q h;
-          old = λ w h. absurd (omega (arith, z, h, a.records k c.pos));
-          kept = kept_then a.kept m.kept;
-          more = m.same ∙ a.more;
-          less = omega (arith, m.less, a.less);
-        }

@@ -6,7 +6,7 @@ use Prim.Native.Nat.{ℕ, ◌+◌, ◌<◌, ◌≤◌}
 use native.Mathlib.Omega.{arith}
 use Rattle.runs.specs.Parts.{Kept}
 use Rattle.runs.proofs.Frames.{kept_none, kept_then, kept_wide}
-use Rattle.index.specs.Index.{CanErase, Erased, SameIndex}
+use Rattle.index.specs.Index.{Erased, SameIndex}
 use Rattle.index.proofs.Clients.{index-kept, idle_lt}
 use Rattle.records.specs.Records.{SameArena}
 use Rattle.arena.specs.Claims.{CanRelease, Released}
@@ -18,9 +18,6 @@ use Rattle.pairs.proofs.Moves.{Moved, state_none, moved_state, moved_spent, move
 use Rattle.pairs.proofs.Entries.{credit-free}
 
 module _ (p : Pairs) (k r : ℕ) (cs ds : List ℕ) (ok : Pairing p cs) (pos : 0 < k) (e : record_of p cs k ≡ r + 1) where
-  pub can_erase : CanErase p.base p.cap k cs
-  can_erase = record { ix = ok.ix; some = omega arith }
-
   gone_tied : Tied p k r cs
   gone_tied = ok.tied k r pos e
 
