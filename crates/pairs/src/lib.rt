@@ -42,7 +42,7 @@ impl Pairs {
         requires { lists_at self < 2 ^ 64 }
         ensures { result ≡ lists_at self }
     {
-        self.base + 2 * self.cap + 3 + 8 * self.most
+        self.records() + 3 + 8 * self.most
     }
 
     // The words of the long lists.
