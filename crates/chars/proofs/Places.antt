@@ -58,6 +58,8 @@ module _ (w : List ℕ) (i low high : ℕ) where
   pub octet_inside : heads low high (rest i w) ≡ true → i < length w
   octet_inside e = below_or_not i (length w) (λ h. h) (λ h. absurd (false≢true (octet_end h ∙ e)))
 
+pub ruleset octet_rules = (octet_end, octet_low, octet_high)
+
 -- WHAT FOLLOWS THE FIRST OCTET: the whole answer is the answer from the k-th tail on
 
 unfoldable pub follow_from : ℕ → List ℕ → ℕ → ℕ → Option ℕ
@@ -104,6 +106,8 @@ module _ (w : List ℕ) (at n k : ℕ) (r : Option ℕ) where
 
     pub follow_tail : not y ≡ false → at + 1 + (k + 1) < length w
     follow_tail f = let i = octet_inside w (at + 2 + k) 0x80 0xBF (sym t ∙ not-false y f) in omega arith
+
+pub ruleset follow_rules = (follow_none, follow_start, follow_second, follow-out, follow-turn, follow_tail, follow_end)
 
 -- THE ROW THAT THE FIRST OCTET DECIDES
 

@@ -7,6 +7,7 @@ ghost use Rattle.rfc3629.specs.Rows.{heads, follow, char_len};
 ghost use Rattle.chars.specs.Places.{rest, some_length};
 
 // Tells whether an octet from low to high stands at i.
+#[tactic(auto, using(crate::proofs::Places::octet_rules))]
 fn octet(word: &[u8], i: usize, low: u8, high: u8) -> bool
     ensures { result ≡ heads low high (rest i word.now) }
 {
@@ -21,6 +22,7 @@ fn octet(word: &[u8], i: usize, low: u8, high: u8) -> bool
 
 // The length of the character whose first octet stands at `at`, where an octet from low to high and
 // then n tails follow it.
+#[tactic(auto, using(crate::proofs::Places::follow_rules))]
 fn followed(word: &[u8], at: usize, low: u8, high: u8, n: usize) -> Option<usize>
     requires { at < length word.now }
     ensures { result ≡ some_length (follow low high n (rest (at + 1) word.now)) }

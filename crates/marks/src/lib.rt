@@ -40,6 +40,7 @@ fn mask(mark: Mark) -> u8
 }
 
 // The marks with one of them set.
+#[tactic(auto, using(crate::proofs::Each::sets))]
 pub fn set(mark: Mark, m: u8) -> u8
     ensures { result ≡ marking (place mark) true m }
 {
@@ -47,6 +48,7 @@ pub fn set(mark: Mark, m: u8) -> u8
 }
 
 // The marks with one of them cleared.
+#[tactic(auto, using(crate::proofs::Each::clears))]
 pub fn clear(mark: Mark, m: u8) -> u8
     ensures { result ≡ marking (place mark) false m }
 {
@@ -54,6 +56,7 @@ pub fn clear(mark: Mark, m: u8) -> u8
 }
 
 // Tells whether a mark is set.
+#[tactic(auto, using(crate::proofs::Each::tells))]
 pub fn is_set(mark: Mark, m: u8) -> bool
     ensures { result ≡ marked (place mark) m }
 {

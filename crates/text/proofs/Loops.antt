@@ -32,6 +32,8 @@ pub seeding_bytes : (n : ℕ) → (n ≡ 1 → ⊥) → by_chars Bytes ≡ chars
 unfolding by_chars setting_of
 seeding_bytes n e = sym (ne_eqb n 1 e)
 
+pub ruleset seeding_rules = (seeding-chars, seeding_bytes)
+
 -- WELL FORMED: the whole answer is the answer from here on
 
 pub well_start : (w : List ℕ) → well_formed w ≡ well_formed (rest 0 w)
@@ -118,6 +120,8 @@ module _ (d : Seeding) where
         let l = length-part from (to - from) s (omega arith) in
         let i : r ≡ length (seeded true (part from (to - from) s)) = h ∙ rw (part_lent from to s, seeded-chars) in
         record { is = rw e i; few = omega (arith, seeded_few true (part from (to - from) s)) }
+
+pub ruleset whole_rules = (whole_bytes, whole_chars)
 
 -- ONE UNIT
 

@@ -22,6 +22,7 @@ pub enum Seeding {
 impl Seeding {
     // The seeding of a setting: 1 is Chars. That the setting is 0 or 1 is not asked here: the table's
     // shape rules refuse any other.
+    #[tactic(auto, using(crate::proofs::Loops::seeding_rules))]
     pub fn from_number(number: u64) -> Seeding
         ensures { by_chars result ≡ chars number }
     {
@@ -63,6 +64,7 @@ fn count_chars(word: &[u8]) -> usize
 }
 
 // Tells whether the word from `from` to `to` is well formed.
+#[tactic(auto, using(crate::proofs::Loops::well_lent))]
 fn well_formed(s: &[u8], from: usize, to: usize) -> bool
     requires { (from ≤ to) × (to ≤ length s.now) }
     ensures { result ≡ well_formed (part from (to - from) s.now) }
@@ -71,6 +73,7 @@ fn well_formed(s: &[u8], from: usize, to: usize) -> bool
 }
 
 // Tells whether the word from `from` to `to` is cut into characters.
+#[tactic(auto, using(crate::proofs::Loops::whole_rules))]
 pub fn whole(s: &[u8], from: usize, to: usize, seeding: Seeding) -> bool
     requires { (from ≤ to) × (to ≤ length s.now) }
     ensures { result ≡ (by_chars seeding && well_formed (part from (to - from) s.now)) }
