@@ -105,6 +105,8 @@ module _ (pieces : List ℕ) (what : Result Place PieceError) where
   unfolding part_of
   part_refused f e = rw e
 
+pub ruleset part_rules = (part_inside, part_found, part_refused)
+
 -- THE PIECE THAT A NUMBER HAS is the part that its answer names
 
 module _ (pieces ends : List ℕ) (number : ℕ) where

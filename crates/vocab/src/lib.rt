@@ -100,6 +100,7 @@ pub fn look(pieces: &[u8], ends: &[u8], number: u64) -> Result<Place, PieceError
 }
 
 // The part of the pieces that an answer names: empty where it names none.
+#[tactic(auto, using(crate::proofs::Reading::part_rules))]
 fn part<'a>(pieces: &'a [u8], what: Result<Place, PieceError>) -> &'a [u8]
     requires { Within what (length pieces.now) }
     ensures { result.now ≡ part_of pieces.now what }
