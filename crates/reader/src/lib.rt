@@ -13,6 +13,7 @@ use vocab::Place;
 
 // A piece: a part of the lent bytes, empty on a refusal. The answer beside it tells a refusal from
 // an empty piece.
+// Stays: part and answer side by side, since `Answered` promises both of every number.
 #[derive(Clone, Copy)]
 pub struct Piece<'a> {
     pub part: &'a [u8],

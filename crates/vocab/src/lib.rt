@@ -113,6 +113,7 @@ fn part<'a>(pieces: &'a [u8], what: Result<Place, PieceError>) -> &'a [u8]
 
 // The piece that has a number, as part of the caller's own bytes: empty where there is none, which
 // `look` tells from an empty piece.
+// Stays: no Option, since the clause promises the empty part on a refusal (`piece_given`).
 pub fn piece<'a, 'b>(pieces: &'a [u8], ends: &'b [u8], number: u64) -> &'a [u8]
     ensures { result.now ≡ piece_given pieces.now ends.now number }
 {
