@@ -30,6 +30,7 @@ pub struct Next {
 }
 
 // The left symbol of a pair.
+#[tactic(auto, using(states::proofs::Keys::pair_pos, crate::proofs::Small::left_is))]
 fn left_of(key: u64) -> u32
     requires { OfPair key }
     ensures { result ≡ left_of key }
@@ -38,6 +39,7 @@ fn left_of(key: u64) -> u32
 }
 
 // The right symbol of a pair.
+#[tactic(auto, using(states::proofs::Keys::pair_pos, crate::proofs::Small::right_is))]
 fn right_of(key: u64) -> u32
     requires { OfPair key }
     ensures { result ≡ right_of key }
@@ -46,6 +48,7 @@ fn right_of(key: u64) -> u32
 }
 
 // The count of a pair now. A pair without a record occurs nowhere.
+#[tactic(auto, using(crate::proofs::Small::uncounted))]
 fn live_count(room: &[u8], p: Pairs, key: u64) -> u64
     requires { (Pairing p (cells room.now)) × (0 < key) }
     ensures { result ≡ (state p (cells room.now) key).count }

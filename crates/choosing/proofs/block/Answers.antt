@@ -3,13 +3,16 @@ use borrow.Author.Rules.{rules}
 use Rattle.choosing.proofs.Small.{counts_found, counts_has, blocked-set}
 use Rattle.choosing.proofs.block.Goals as goal
 
-ruleset laws = (counts_found, counts_has, blocked-set, rules)
+ruleset laws = (blocked-set, rules)
 
-pub overflow_sub-r : goal.overflow_sub-r
-overflow_sub-r c = search laws
+pub unwrap-r-requires : goal.unwrap-r-requires
+unwrap-r-requires c = counts_found _ _ _ c.requires _ c.find.ensures
 
 pub marks-requires : goal.marks-requires
-marks-requires c = search laws
+marks-requires c = counts_has _ _ _ c.requires _ c.find.ensures _ c.unwrap-r.ensures
 
 pub set_marks-requires : goal.set_marks-requires
-set_marks-requires c = search laws
+set_marks-requires c = counts_has _ _ _ c.requires _ c.find.ensures _ c.unwrap-r.ensures
+
+pub returns : goal.returns
+returns c = search laws
