@@ -30,7 +30,7 @@ pub fn get(room: &[u8], p: Pairs, r: usize, f: usize) -> u64
     requires { Within (arena_at p) p.most r f (cells room.now) }
     ensures { result ≡ field (arena_at p) (cells room.now) r f }
 {
-    records::get_field(room, p.records(), p.most, r, f)
+    records::get_field(room, p.arena(), r, f)
 }
 
 // Puts v in a field of a live record, but not in its key.
@@ -38,7 +38,7 @@ pub fn put(room: &mut [u8], p: Pairs, r: usize, f: usize, v: u64)
     requires { CanPut (arena_at p) p.most r f (cells room.old) }
     ensures { FieldPut (arena_at p) p.most r f v (cells room.old) (cells room.new) }
 {
-    records::put_field(room, p.records(), p.most, r, f, v);
+    records::put_field(room, p.arena(), r, f, v);
 }
 
 // The key of a record.

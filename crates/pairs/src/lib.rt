@@ -8,6 +8,7 @@ ghost use Rattle.pairs.specs.View.{arena_at, lists_at, data_at, behind, record_o
 ghost use Rattle.pairs.specs.Pairs.{Pairing, CanEnter, Entered, Asked, CanMake, Made, Removed};
 
 use cells::Ring;
+use records::Arena;
 
 // The index has `cap` slots from the cell `base` on; there is place for `most` records.
 #[derive(Clone, Copy)]
@@ -35,6 +36,17 @@ impl Pairs {
         ensures { result ≡ arena_at self }
     {
         self.base + 2 * self.cap
+    }
+
+    // The records, as many as there is place for.
+    pub fn arena(self) -> Arena
+        requires { arena_at self < 2 ^ 64 }
+        ensures { result ≡ record { base = arena_at self; most = self.most } }
+    {
+        Arena {
+            base: self.records(),
+            most: self.most,
+        }
     }
 
     // Two cells for the long lists: how many cells of theirs are used, and how many times a record was asked for.
@@ -96,7 +108,7 @@ fn make(room: &mut [u8], p: Pairs, key: u64) -> usize
     requires { CanMake p key (cells room.old) }
     ensures { Made p key result (cells room.old) (cells room.new) }
 {
-    let r = arena::alloc(room, p.records(), p.most, key);
+    let r = arena::alloc(room, p.arena(), key);
     index::insert(room, p.index(), key, (r + 1) as u64);
     r
 }
@@ -120,6 +132,6 @@ pub fn remove(room: &mut [u8], p: Pairs, key: u64)
 {
     if let Some(r) = find(room, p, key) {
         index::erase(room, p.index(), key);
-        arena::release(room, p.records(), p.most, r);
+        arena::release(room, p.arena(), r);
     }
 }
