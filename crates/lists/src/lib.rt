@@ -1,5 +1,5 @@
-// A pair's list of words as it is read: `WordList` and `PairState` of the original. Up to four words stand in the pair's record, a
-// longer list in a run of cells.
+// A pair's list of words as it is read: `WordList` and `PairState` of the original. Up to four words stand in
+// the pair's record, a longer list in a run of cells.
 #![tactic(auto)]
 
 ghost use Rattle.std.specs.Prelude.{◌≡◌, ◌<◌, length};
@@ -12,10 +12,10 @@ ghost use Rattle.lists.specs.Lists.{kind_of, length_of, Loaded};
 use fields::{FIRST, MANY, PLACE};
 use pairs::Pairs;
 
-// Which kind of list, and how many words. An enum holds no array: the short words stand beside it, the long list at the place.
+// A list of words: so many in a place for four, or the place of a run and how many.
 #[derive(Clone, Copy)]
 pub enum WordList {
-    Short(u64),
+    Short(u64, [u64; 4]),
     Spilled(u64, u64),
 }
 
@@ -25,7 +25,6 @@ pub struct PairState {
     pub count: u64,
     pub marks: u8,
     pub words: WordList,
-    pub near: [u64; 4],
 }
 
 // How many words a list has.
@@ -33,19 +32,19 @@ pub fn len(words: WordList) -> u64
     ensures { result ≡ length_of words }
 {
     match words {
-        WordList::Short(n) => n,
+        WordList::Short(n, _) => n,
         WordList::Spilled(_, n) => n,
     }
 }
 
-// Which kind of list n words are.
-fn kind(n: u64, place: u64) -> WordList
-    ensures { result ≡ kind_of n place }
+// Which kind of list n words are, by the last four fields of their record.
+fn kind(n: u64, near: [u64; 4]) -> WordList
+    ensures { result ≡ kind_of n near }
 {
     if n <= 4 {
-        WordList::Short(n)
+        WordList::Short(n, near)
     } else {
-        WordList::Spilled(place, n)
+        WordList::Spilled(near[0], n)
     }
 }
 
@@ -61,12 +60,11 @@ fn load(room: &[u8], p: Pairs, key: u64, r: usize) -> PairState
     let d = fields::get(room, p, r, FIRST + 3);
     let count = fields::count(room, p, key, r);
     let marks = fields::marks(room, p, key, r);
-    let words = kind(n, a);
+    let words = kind(n, [a, b, c, d]);
     PairState {
         count,
         marks,
         words,
-        near: [a, b, c, d],
     }
 }
 

@@ -1,5 +1,5 @@
-// A word noted in a pair's list. A list that stands in the pair's record moves to a run of cells with its fifth word, and one that has
-// filled its run to one of twice the capacity.
+// A word noted in a pair's list. A list that stands in the pair's record moves to a run of cells with its fifth
+// word, and one that has filled its run to one of twice the capacity.
 #![tactic(auto)]
 
 ghost use Rattle.std.specs.Prelude.{◌≡◌};

@@ -1,5 +1,5 @@
-// The pairs and what is known of each: `Pairs` of the original. An index of keys, records behind it, the long lists of words
-// behind these. A pair is its key, left * 2^32 + right + 1.
+// The pairs and what is known of each: `Pairs` of the original. An index of keys, records behind it, the long
+// lists of words behind these. A pair is its key, left * 2^32 + right + 1.
 #![tactic(auto)]
 
 ghost use Rattle.std.specs.Prelude.{◌≡◌, ◌+◌, ◌*◌, ◌^◌, ◌<◌, MatchOption};

@@ -1,5 +1,6 @@
-// The reports of a merge, applied to the states of the pairs as they come: a count, the words that hold the pair, the marks. A
-// pair that is touched for the first time in a merge is put on a list, so that only these are looked at when it is over.
+// The reports of a merge, applied to the states of the pairs as they come: a count, the words that hold the
+// pair, the marks. A pair that is touched for the first time in a merge is put on a list, so that only these are
+// looked at when it is over.
 #![tactic(auto)]
 
 ghost use Rattle.std.specs.Prelude.{◌≡◌, true, cond};
@@ -25,7 +26,8 @@ fn mark(was: u8, gain: bool) -> u8
     }
 }
 
-// Marks a pair as touched, and as gained where it has gained, and puts its record on the list of n unless it is there.
+// Marks a pair as touched, and as gained where it has gained, and puts its record on the list of n unless it is
+// there.
 fn touch(room: &mut [u8], p: Pairs, key: u64, r: usize, n: usize, gain: bool) -> usize
     requires { CanTouch p key r n (cells room.old) }
     ensures { TouchDone p key r n gain (cells room.old) (cells room.new) result }

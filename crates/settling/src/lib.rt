@@ -1,4 +1,5 @@
-// The end of a merge: of the pairs that it touched, those without a count are released, and those that gained wait in the queue.
+// The end of a merge: of the pairs that it touched, those without a count are released, and those that gained
+// wait in the queue.
 #![tactic(auto)]
 
 ghost use Rattle.std.specs.Prelude.{◌≡◌, ◌+◌};
@@ -30,7 +31,8 @@ fn wait(room: &mut [u8], q: usize, m: usize, v: u8, e: Candidate) -> usize
     m
 }
 
-// Settles the j-th pair on the list: it is released where it has no count, else its marks go and it waits if it has gained.
+// Settles the j-th pair on the list: it is released where it has no count, else its marks go and it waits if it
+// has gained.
 fn settle_one(room: &mut [u8], p: Pairs, q: usize, m: usize, j: usize) -> usize
     requires { CanSettleOne p q m j (cells room.old) }
     ensures { OneSettled p q m (key_in p (cells room.old) (nth (cells room.old) (behind p + j)))

@@ -1,5 +1,5 @@
-// What is known of each pair while a merge changes the words, as definitions (specs/) on plain functions from pairs to states, and
-// that it tracks the words (proofs/). Of code only a pair's number.
+// What is known of each pair while a merge changes the words, as definitions (specs/) on plain functions from
+// pairs to states, and that it tracks the words (proofs/). Of code only a pair's number.
 #![tactic(auto)]
 
 ghost use Rattle.std.specs.Prelude.{◌≡◌, ◌<◌};
