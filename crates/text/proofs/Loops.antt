@@ -121,7 +121,7 @@ module _ (d : Seeding) where
         let i : r ≡ length (seeded true (part from (to - from) s)) = h ∙ rw (part_lent from to s, seeded-chars) in
         record { is = rw e i; few = omega (arith, seeded_few true (part from (to - from) s)) }
 
-pub ruleset whole_rules = (whole_bytes, whole_chars)
+pub ruleset whole_rules = (whole_bytes, whole_chars, well_lent)
 
 -- ONE UNIT
 

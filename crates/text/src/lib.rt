@@ -63,16 +63,9 @@ fn count_chars(word: &[u8]) -> usize
     n
 }
 
-// Tells whether the word from `from` to `to` is well formed.
-#[tactic(auto, using(crate::proofs::Loops::well_lent))]
-fn well_formed(s: &[u8], from: usize, to: usize) -> bool
-    requires { (from ≤ to) × (to ≤ length s.now) }
-    ensures { result ≡ well_formed (part from (to - from) s.now) }
-{
-    all_chars(&s[from..to])
-}
-
 // Tells whether the word from `from` to `to` is cut into characters.
+// Stays: a word is told by its two places in the run, here and in `count_units` and `next_unit`: callers
+// go over a run by the ends of its words, and answers are places of that run, so a slice is no plainer.
 #[tactic(auto, using(crate::proofs::Loops::whole_rules))]
 pub fn whole(s: &[u8], from: usize, to: usize, seeding: Seeding) -> bool
     requires { (from ≤ to) × (to ≤ length s.now) }
@@ -80,7 +73,7 @@ pub fn whole(s: &[u8], from: usize, to: usize, seeding: Seeding) -> bool
 {
     match seeding {
         Seeding::Bytes => false,
-        Seeding::Chars => well_formed(s, from, to),
+        Seeding::Chars => all_chars(&s[from..to]),
     }
 }
 
