@@ -50,6 +50,7 @@ pub fn key_of(room: &[u8], p: Pairs, r: usize) -> u64
 }
 
 // The count of a pair that has the record r.
+// Stays: the key beside the record, as two numbers. A struct is no plainer: each caller finds one by the other.
 pub fn count(room: &[u8], p: Pairs, key: u64, r: usize) -> u64
     requires { Has p key r (cells room.now) }
     ensures { result ≡ (state p (cells room.now) key).count }
