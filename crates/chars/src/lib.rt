@@ -1,5 +1,5 @@
-// The characters of a word, as RFC 3629 has them: `char_len` has a row for each alternative of the syntax in its section 4. Every
-// sequence of bytes gets an answer.
+// The characters of a word, as RFC 3629 has them: `char_len` has a row for each alternative of the syntax in
+// its section 4. Every sequence of bytes gets an answer.
 #![tactic(auto)]
 
 ghost use Rattle.std.specs.Prelude.{◌≡◌, ◌+◌, ◌<◌, length};
