@@ -4,16 +4,18 @@
 // The set lies in the cells below the table of spellings, so that neither disturbs the other.
 #![tactic(auto)]
 
-ghost use Rattle.std.specs.Prelude.{◌≡◌, true, cond, [], ◌++◌, ◌+◌, ◌/◌, ◌<◌, ◌≤◌, length};
+ghost use Rattle.std.specs.Prelude.{◌≡◌, true, cond, [], ◌+◌, ◌/◌, ◌<◌, ◌≤◌, length};
 ghost use Rattle.cells.specs.Cells.{cells};
 ghost use Rattle.rfc3629.specs.Cut.{units_by};
 ghost use Rattle.rule.specs.Shapes.{shaped};
 ghost use Rattle.rule.specs.Table.{units};
 ghost use Rattle.rule.specs.Spelling.{decorate};
+ghost use Rattle.intern.specs.Spelled.{spelled};
 ghost use Rattle.intern.specs.Intern.{CanIntern};
 ghost use Rattle.alphabet.specs.Seeds.{CanSeed};
 ghost use Rattle.word.specs.Layout.{Words};
-ghost use Rattle.encoding.specs.Encoding.{decorated_units, all_decorated, UnitDone, WordDone, EntryDone, WordsDone, Fits};
+ghost use Rattle.encoding.specs.Encoding.{decorated_units, all_decorated, Fits};
+ghost use Rattle.encoding.specs.Encoding.{UnitDone, WordDone, EntryDone, WordsDone};
 
 use cells::Ring;
 use error::NoRoom;
@@ -36,8 +38,7 @@ fn seed_unit(
 ) -> Result<Filled, NoRoom>
     requires can_intern { CanIntern ring.base ring.cap filled.count filled.used (cells room.old) pieces.old ends.old }
     requires words { Words w (cells room.old) × (w.top + 2 + n < ring.base) }
-    ensures { UnitDone result w n ring.base ring.cap filled.count filled.used
-        (spelling.entry.prefix.now ++ (spelling.entry.unit.now ++ spelling.entry.suffix.now))
+    ensures { UnitDone result w n ring.base ring.cap filled.count filled.used (spelled spelling.entry)
         room.old pieces.old ends.old room.new pieces.new ends.new }
 {
     let interned = intern::intern(room, ring, pieces, ends, filled, spelling)?;

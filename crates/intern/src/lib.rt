@@ -7,9 +7,10 @@
 // touched but by a new piece.
 #![tactic(auto)]
 
-ghost use Rattle.std.specs.Prelude.{◌≡◌, ◌++◌, ◌+◌, ◌*◌, ◌%◌, ◌<◌, ◌≤◌, length, leb};
+ghost use Rattle.std.specs.Prelude.{◌≡◌, ◌+◌, ◌*◌, ◌%◌, ◌<◌, ◌≤◌, length, leb};
 ghost use Rattle.cells.specs.Cells.{cells};
 ghost use Rattle.intern.specs.Pieces.{Held};
+ghost use Rattle.intern.specs.Spelled.{spelled};
 ghost use Rattle.intern.specs.Intern.{spelt, look, Pieces, CanIntern, CanAdd, Answer};
 
 use cells::{Found, Ring};
@@ -32,8 +33,7 @@ fn is_spelled(
 ) -> bool
     requires { (Held filled.count filled.used pieces.now ends.now)
         × (0 < x % 4294967296) × (x % 4294967296 ≤ filled.count) }
-    ensures { result ≡ spelt hash
-        (spelling.entry.prefix.now ++ (spelling.entry.unit.now ++ spelling.entry.suffix.now)) pieces.now ends.now x }
+    ensures { result ≡ spelt hash (spelled spelling.entry) pieces.now ends.now x }
 {
     if x / 4294967296 != hash {
         return false;
@@ -54,8 +54,7 @@ fn find(
     spelling: Spelling,
 ) -> Found
     requires { Pieces ring.base ring.cap filled.count filled.used (cells room.now) pieces.now ends.now }
-    ensures { result ≡ look ring.base ring.cap (cells room.now) pieces.now ends.now
-        (spelling.entry.prefix.now ++ (spelling.entry.unit.now ++ spelling.entry.suffix.now)) }
+    ensures { result ≡ look ring.base ring.cap (cells room.now) pieces.now ends.now (spelled spelling.entry) }
 {
     let hash = spells::hash_three(spelling);
     let mut i = (hash % (ring.cap as u64)) as usize;
@@ -105,11 +104,9 @@ fn add(
     spelling: Spelling,
     slot: usize,
 ) -> Result<Interned, NoRoom>
-    requires { CanAdd ring.base ring.cap filled.count filled.used
-        (spelling.prefix.now ++ (spelling.unit.now ++ spelling.suffix.now)) slot
+    requires { CanAdd ring.base ring.cap filled.count filled.used (spelled spelling) slot
         (cells room.old) pieces.old ends.old }
-    ensures { Answer result ring.base ring.cap filled.count filled.used
-        (spelling.entry.prefix.now ++ (spelling.entry.unit.now ++ spelling.entry.suffix.now))
+    ensures { Answer result ring.base ring.cap filled.count filled.used (spelled spelling.entry)
         room.old pieces.old ends.old room.new pieces.new ends.new }
 {
     let Filled { count, used } = filled;
@@ -125,11 +122,8 @@ fn add(
     let hash = spells::hash_three(spelling);
     let end = spelling::decorate(pieces, used, spelling);
     numbers::store4(ends, count * 4, end as u32);
-    cells::put_cell(
-        room,
-        ring.base + slot,
-        hash * 4294967296 + ((count + 1) as u64),
-    );
+    let x = hash * 4294967296 + ((count + 1) as u64);
+    cells::put_cell(room, ring.base + slot, x);
     Ok(Interned {
         number: count,
         filled: Filled {
@@ -149,8 +143,7 @@ pub fn intern(
     spelling: Spelling,
 ) -> Result<Interned, NoRoom>
     requires { CanIntern ring.base ring.cap filled.count filled.used (cells room.old) pieces.old ends.old }
-    ensures { Answer result ring.base ring.cap filled.count filled.used
-        (spelling.entry.prefix.now ++ (spelling.entry.unit.now ++ spelling.entry.suffix.now))
+    ensures { Answer result ring.base ring.cap filled.count filled.used (spelled spelling.entry)
         room.old pieces.old ends.old room.new pieces.new ends.new }
 {
     match find(room, ring, pieces, ends, filled, spelling) {

@@ -12,7 +12,8 @@ ghost use Rattle.rule.specs.Shapes.{parts_by};
 ghost use Rattle.rule.specs.Table.{chars, units_of};
 ghost use Rattle.rule.specs.Seeding.{first_seeds};
 ghost use Rattle.encoding.specs.Encoding.{all_decorated};
-ghost use Rattle.seeding.specs.Seeding.{table, Counting, Counted, CanBegin, FirstDone, CanGoOn, RestDone, CanSeed, SeedDone};
+ghost use Rattle.seeding.specs.Seeding.{table, CanSeed, SeedDone};
+ghost use Rattle.seeding.specs.Seeding.{Counting, Counted, CanBegin, FirstDone, CanGoOn, RestDone};
 
 use cells::Ring;
 use encoding::Encoded;
