@@ -1,5 +1,5 @@
-// The next merge by the queue: the head is taken; one that is stale is corrected and waits again, or is dropped; one whose piece
-// is over-long is skipped for good.
+// The next merge by the queue: the head is taken; one that is stale is corrected and waits again, or is dropped; one
+// whose piece is over-long is skipped for good.
 #![tactic(auto)]
 
 ghost use Rattle.std.specs.Prelude.{◌≡◌, ◌+◌, ◌*◌, ◌<◌, ◌≤◌, length};
@@ -59,7 +59,8 @@ fn live_count(room: &[u8], p: Pairs, key: u64) -> u64
     }
 }
 
-// A stale entry: dropped where its pair is gone, else among the m candidates again with its count now. How many candidates wait.
+// A stale entry: dropped where its pair is gone, else among the m candidates again with its count now. How many
+// candidates wait.
 fn correct(room: &mut [u8], q: usize, m: usize, live: u64, key: u64) -> usize
     requires { (Heap q m (cells room.old)) × (q + 2 * m + 2 ≤ length (cells room.old)) }
     ensures { Corrected q m live key (cells room.old) (cells room.new) result }
@@ -81,8 +82,8 @@ fn block(room: &mut [u8], p: Pairs, key: u64)
     fields::set_marks(room, p, key, r, m);
 }
 
-// Takes the head of the queue. The tests are in this order: stale, the minimum, the length. The run goes on with the engine, or
-// ends with an answer.
+// Takes the head of the queue. The tests are in this order: stale, the minimum, the length. The run goes on with the
+// engine, or ends with an answer.
 fn take_head(
     room: &mut [u8],
     g: Engine,
@@ -94,7 +95,8 @@ fn take_head(
     least: u64,
 ) -> ControlFlow<Option<Next>, Engine>
     requires held { Held filled.count filled.used pieces.now ends.now }
-    requires can_choose { CanChoose g filled.count prefix.now limit (rooms.pieces pieces.now ends.now filled.count) (cells room.old) }
+    requires can_choose { CanChoose g filled.count prefix.now limit
+        (rooms.pieces pieces.now ends.now filled.count) (cells room.old) }
     requires le_least { (1 ≤ least) × (0 < g.waiting) }
     ensures { TurnDone result g filled.count prefix.now limit least (rooms.pieces pieces.now ends.now filled.count)
         (cells room.old) (cells room.new) }
@@ -132,8 +134,8 @@ fn take_head(
     })
 }
 
-// The pair that is merged next: of those whose piece is within the limit the one with the greatest count, among equals the lowest,
-// if its count is at least `least`.
+// The pair that is merged next: of those whose piece is within the limit the one with the greatest count, among
+// equals the lowest, if its count is at least `least`.
 pub fn next_merge(
     room: &mut [u8],
     g: Engine,
@@ -145,7 +147,8 @@ pub fn next_merge(
     least: u64,
 ) -> Option<Next>
     requires held { Held filled.count filled.used pieces.now ends.now }
-    requires can_choose { CanChoose g filled.count prefix.now limit (rooms.pieces pieces.now ends.now filled.count) (cells room.old) }
+    requires can_choose { CanChoose g filled.count prefix.now limit
+        (rooms.pieces pieces.now ends.now filled.count) (cells room.old) }
     requires le_least { 1 ≤ least }
     ensures { NextDone result g filled.count prefix.now limit least (rooms.pieces pieces.now ends.now filled.count)
         (cells room.old) (cells room.new) }

@@ -1,5 +1,6 @@
-// The queue engine between two merges: the words, what is known of each pair, and the queue of the pairs that may be merged next.
-// So a merge goes to the words that hold its pair and to no others, and leaves the queue's entries alone.
+// The queue engine between two merges: the words, what is known of each pair, and the queue of the pairs that may be
+// merged next. So a merge goes to the words that hold its pair and to no others, and leaves the queue's entries
+// alone.
 #![tactic(auto)]
 
 ghost use Rattle.std.specs.Prelude.{true};
@@ -15,7 +16,8 @@ use pairs::Pairs;
 use step::Rule;
 use word::WordSet;
 
-// The queue has `waiting` candidates from the cell `queue` on, and at most `turns` entries are taken from it from here on.
+// The queue has `waiting` candidates from the cell `queue` on, and at most `turns` entries are taken from it from here
+// on.
 #[derive(Clone, Copy)]
 pub struct Engine {
     pub words: WordSet,
@@ -25,8 +27,8 @@ pub struct Engine {
     pub turns: usize,
 }
 
-// No pair is known yet: the index, the head of the records and the head of the lists are cleared. The records and the lists
-// themselves may hold anything, so that a start does not cost what they take.
+// No pair is known yet: the index, the head of the records and the head of the lists are cleared. The records and the
+// lists themselves may hold anything, so that a start does not cost what they take.
 fn clear(room: &mut [u8], p: Pairs)
     requires { CanClear p (cells room.old) }
     ensures { Cleared p (cells room.old) (cells room.new) }
@@ -39,7 +41,11 @@ fn clear(room: &mut [u8], p: Pairs)
 fn mark(room: &mut [u8], p: Pairs, key: u64, r: usize)
     requires { Has p key r (cells room.old) }
     ensures { Updated p key r
-        (record { count = (state p (cells room.old) key).count; marks = marking touched true (state p (cells room.old) key).marks; words = (state p (cells room.old) key).words })
+        (record {
+          count = (state p (cells room.old) key).count;
+          marks = marking touched true (state p (cells room.old) key).marks;
+          words = (state p (cells room.old) key).words;
+        })
         (cells room.old) (cells room.new) }
 {
     let m = fields::marks(room, p, key, r);

@@ -1,4 +1,5 @@
-// A merge in the words that hold its pair: each is rewritten in place, and the reports of each rewrite are applied as it is made.
+// A merge in the words that hold its pair: each is rewritten in place, and the reports of each rewrite are applied as
+// it is made.
 #![tactic(auto)]
 
 ghost use Rattle.std.specs.Prelude.{◌≡◌, ◌+◌, ◌<◌, ◌≤◌, length};
@@ -21,7 +22,8 @@ pub struct Joined {
     pub touched: usize,
 }
 
-// Applies the reports of a step in word k, of frequency f, where n pairs are touched so far. A step that keeps a symbol has none.
+// Applies the reports of a step in word k, of frequency f, where n pairs are touched so far. A step that keeps a
+// symbol has none.
 fn tell(room: &mut [u8], p: Pairs, n: usize, st: Step, rule: Rule, f: u64, k: usize) -> usize
     requires { CanTell rule.a rule.b rule.x p n st f (cells room.old) }
     ensures { Told rule.a rule.b rule.x p n st f k (cells room.old) (cells room.new) result }
@@ -32,7 +34,8 @@ fn tell(room: &mut [u8], p: Pairs, n: usize, st: Step, rule: Rule, f: u64, k: us
     reports::report(room, p, n, st, rule, f, k)
 }
 
-// Puts the length of the word whose symbols begin in the cell `start`: `kept` of the `long` that it had, with m pairs touched.
+// Puts the length of the word whose symbols begin in the cell `start`: `kept` of the `long` that it had, with m pairs
+// touched.
 fn shorten(room: &mut [u8], w: WordSet, start: usize, long: usize, kept: usize, m: usize) -> Joined
     requires { CanShorten w start long kept (cells room.old) }
     ensures { Shortened w start long kept m (cells room.old) (cells room.new) result }
@@ -47,8 +50,8 @@ fn shorten(room: &mut [u8], w: WordSet, start: usize, long: usize, kept: usize, 
     }
 }
 
-// Rewrites a pair in word k, of frequency f. Each rewrite is reported before it is written, with the symbol that stands before it in
-// the rewritten word.
+// Rewrites a pair in word k, of frequency f. Each rewrite is reported before it is written, with the symbol that
+// stands before it in the rewritten word.
 fn merge_word(room: &mut [u8], now: Joined, p: Pairs, k: usize, f: u64, rule: Rule) -> Joined
     requires { (Midway rule.a rule.b rule.x now.words p now.touched (cells room.old)) × (k < now.words.count)
         × (f ≡ (word_of now.words k (cells room.old)).frequency) }
@@ -80,8 +83,8 @@ fn batch(left: usize) -> usize
     left.min(16)
 }
 
-// The frequencies of n words of a pair's list, from the i-th on. Each read waits for no other, so that the words are fetched side by
-// side, before the first is rewritten.
+// The frequencies of n words of a pair's list, from the i-th on. Each read waits for no other, so that the words are
+// fetched side by side, before the first is rewritten.
 fn frequencies(
     room: &[u8],
     w: WordSet,
@@ -114,8 +117,10 @@ fn merge_some(
 ) -> Joined
     requires midway { (Midway rule.a rule.b rule.x begun.words p begun.touched (cells room.old))
         × (Has p (states.key rule.a rule.b) r (cells room.old)) }
-    requires some_in_bounds { (i + some ≤ length (state p (cells room.old) (states.key rule.a rule.b)).words) × (some ≤ 16) }
-    ensures { Visiting rule.a rule.b rule.x begun.words p r i (i + some) result.touched result.words (cells room.old) (cells room.new) }
+    requires some_in_bounds { (i + some ≤ length (state p (cells room.old) (states.key rule.a rule.b)).words)
+        × (some ≤ 16) }
+    ensures { Visiting rule.a rule.b rule.x begun.words p r i (i + some) result.touched result.words
+        (cells room.old) (cells room.new) }
 {
     let key = states::key(rule.a, rule.b);
     let fs = frequencies(room, begun.words, p, key, r, i, some);
@@ -127,9 +132,11 @@ fn merge_some(
     now
 }
 
-// Rewrites a pair in the words of its list, which has every word that holds it, where n pairs are touched so far. Its record is r.
+// Rewrites a pair in the words of its list, which has every word that holds it, where n pairs are touched so far. Its
+// record is r.
 pub fn merge_words(room: &mut [u8], w: WordSet, p: Pairs, r: usize, rule: Rule, n: usize) -> Joined
-    requires { (Midway rule.a rule.b rule.x w p n (cells room.old)) × (Has p (states.key rule.a rule.b) r (cells room.old)) }
+    requires { (Midway rule.a rule.b rule.x w p n (cells room.old))
+        × (Has p (states.key rule.a rule.b) r (cells room.old)) }
     ensures { JoinedAll rule.a rule.b rule.x w p (cells room.old) (cells room.new) result }
 {
     let key = states::key(rule.a, rule.b);

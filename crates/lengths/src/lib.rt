@@ -1,4 +1,5 @@
-// Where a piece stands, how long a joined piece is, and whether that is within the limit. Of the left piece its length is enough.
+// Where a piece stands, how long a joined piece is, and whether that is within the limit. Of the left piece its
+// length is enough.
 #![tactic(auto)]
 
 ghost use Rattle.std.specs.Prelude.{◌≡◌, ◌+◌, ◌*◌, ◌<◌, ◌≤◌, length};
@@ -34,7 +35,8 @@ pub fn joined_bytes(
     prefix: &[u8],
 ) -> usize
     requires { (Held filled.count filled.used pieces.now ends.now) × (left < filled.count) × (right < filled.count) }
-    ensures { result ≡ length (joined prefix.now (piece_at pieces.now ends.now left) (piece_at pieces.now ends.now right)) }
+    ensures { result ≡ length (joined prefix.now
+        (piece_at pieces.now ends.now left) (piece_at pieces.now ends.now right)) }
 {
     let before = place_of(ends, left);
     let behind = place_of(ends, right);

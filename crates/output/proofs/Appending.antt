@@ -95,3 +95,8 @@ module _ (k left right saved : ℕ) (ms ss : List ℕ) (e : NoRoom) where
       let both : laid (laid ms (k * 8) (spell 4 left)) (k * 8 + length (spell 4 left)) (spell 4 right) ≡ laid ms (k * 8) (spell 4 left ++ spell 4 right) =
       laid-laid ms (k * 8) (spell 4 left) (spell 4 right) (omega arith) in
       (omega arith, omega arith, g ∙ ap (λ (l : List ℕ). laid l (k * 8 + 4) (spell 4 right)) f ∙ (rw z at both), j)
+
+-- the ways out of each function
+pub ruleset piece_rules = (no_ends, no_bytes, too_long_lem, piece_done)
+
+pub ruleset merge_rules = (no_merges, no_savings, merge_done)

@@ -15,8 +15,8 @@ use vocab::Filled;
 // The end of a piece has 4 bytes.
 const LONGEST: usize = 4294967295;
 
-// Joins two pieces to a new one behind the others, which always takes the next number. Where it ends, or that it has no place.
-#[tactic(auto, using(crate::proofs::Appending::no_ends, crate::proofs::Appending::no_bytes, crate::proofs::Appending::too_long_lem, crate::proofs::Appending::piece_done))]
+// Joins two pieces to a new one behind the others, which always takes the next number, and tells where it ends.
+#[tactic(auto, using(crate::proofs::Appending::piece_rules))]
 pub fn append_piece(
     pieces: &mut [u8],
     ends: &mut [u8],
@@ -26,7 +26,8 @@ pub fn append_piece(
     prefix: &[u8],
 ) -> Result<usize, NoRoom>
     requires { (Held filled.count filled.used pieces.old ends.old) × (left < filled.count) × (right < filled.count) }
-    ensures { PieceDone result filled.count filled.used (joined prefix.now (piece_at pieces.old ends.old left) (piece_at pieces.old ends.old right))
+    ensures { PieceDone result filled.count filled.used
+        (joined prefix.now (piece_at pieces.old ends.old left) (piece_at pieces.old ends.old right))
         pieces.old ends.old pieces.new ends.new }
 {
     if ends.len() / 4 <= filled.count {
@@ -47,7 +48,7 @@ pub fn append_piece(
 }
 
 // Writes the k-th merge and its saving, where there is a place for both.
-#[tactic(auto, using(crate::proofs::Appending::no_merges, crate::proofs::Appending::no_savings, crate::proofs::Appending::merge_done))]
+#[tactic(auto, using(crate::proofs::Appending::merge_rules))]
 pub fn append_merge(
     merges: &mut [u8],
     savings: &mut [u8],
