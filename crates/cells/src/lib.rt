@@ -10,6 +10,7 @@ ghost use Rattle.cells.specs.Cells.{cells, Put, Laid};
 ghost use Rattle.cells.specs.Ring.{after};
 
 // The cell i.
+#[tactic(auto, using(crate::proofs::Cells::room_laws))]
 pub fn cell(room: &[u8], i: usize) -> u64
     requires { i < length (cells room.now) }
     ensures { result ≡ nth (cells room.now) i }
@@ -18,6 +19,7 @@ pub fn cell(room: &[u8], i: usize) -> u64
 }
 
 // Puts v in the cell i.
+#[tactic(auto, using(crate::proofs::Cells::room_laws))]
 pub fn put_cell(room: &mut [u8], i: usize, v: u64)
     requires { i < length (cells room.old) }
     ensures { Put room.old room.new i v }
@@ -26,6 +28,7 @@ pub fn put_cell(room: &mut [u8], i: usize, v: u64)
 }
 
 // Sets n cells from `at` on to 0.
+#[tactic(auto, using(crate::proofs::Cells::room_laws))]
 pub fn clear_cells(room: &mut [u8], at: usize, n: usize)
     requires { at + n ≤ length (cells room.old) }
     ensures { Laid room.old room.new at (zeros (n * 8)) (zeros n) }
@@ -34,6 +37,7 @@ pub fn clear_cells(room: &mut [u8], at: usize, n: usize)
 }
 
 // Copies n cells from `from` on to `at`, where the two parts may overlap.
+#[tactic(auto, using(crate::proofs::Cells::room_laws))]
 pub fn copy_cells(room: &mut [u8], at: usize, from: usize, n: usize)
     requires { (at + n ≤ length (cells room.old)) × (from + n ≤ length (cells room.old)) }
     ensures { Laid room.old room.new at (part (from * 8) (n * 8) room.old) (part from n (cells room.old)) }
@@ -57,6 +61,7 @@ pub enum Found {
 }
 
 // The slot after i, of `cap` slots in a ring.
+#[tactic(auto, using(crate::proofs::Rings::ring_laws))]
 pub fn next(cap: usize, i: usize) -> usize
     requires { i < cap }
     ensures { (result ≡ after cap i) × (result < cap) }

@@ -13,6 +13,7 @@ pub struct Arena {
 }
 
 // The field f of the record r.
+#[tactic(auto, using(crate::proofs::Laws::field_is))]
 pub fn get_field(room: &[u8], a: Arena, r: usize, f: usize) -> u64
     requires { Within a.base a.most r f (cells room.now) }
     ensures { result ≡ field a.base (cells room.now) r f }

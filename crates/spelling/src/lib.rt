@@ -21,6 +21,7 @@ fn strip_prefix<'a, 'b>(piece: &'a [u8], prefix: &'b [u8]) -> &'a [u8]
 }
 
 // How many bytes of a piece are left without its prefix.
+#[tactic(auto, using(crate::proofs::Prefixes::stripped_length, crate::proofs::Prefixes::stripped_short))]
 fn stripped_length(piece: &[u8], prefix: &[u8]) -> usize
     ensures { (result ≡ length (strip_prefix prefix.now piece.now)) × (result ≤ length piece.now) }
 {
