@@ -176,17 +176,21 @@ loop_number g n u k a b times s cs xs ys ms ss ds vs ws ns ts r x = x.0
 -- THE WAYS OUT, as the contract has them: the words at the start are those of the set w₀
 module _ (w₀ : WordSet) (bs : List ℕ) (es₀ : List Entry) (n₀ u₀ : ℕ) (prefix : List ℕ) (size least limit : ℕ) (xs ys ms ss cs vs ws ns ts : List ℕ) (g : Engine) (n u k : ℕ)
     (z : es₀ ≡ words_in w₀ bs) (l : Looping es₀ n₀ u₀ prefix size least limit xs ys ms ss cs vs ws ns ts g n u k) where
+  -- what is told then: each merge is a piece more
   abbrev told : Trained
-  told = record { filled = record { count = n; used = u }; merges = k }
+  told = record { filled = record { count = n; used = u }; merges = n - n₀ }
+
+  made : n - n₀ ≡ k
+  made = omega (arith, l.standing.number)
 
   pub loop_full : size ≤ n → TrainedDone (Ok told) w₀ n₀ u₀ prefix size least limit bs xs ys ms ss vs ws ns ts
   unfolding TrainedDone
-  loop_full h = rw (← z) (full es₀ n₀ u₀ prefix size least limit xs ys ms ss cs vs ws ns ts g n u k l h)
+  loop_full h = rw (← z, made) (full es₀ n₀ u₀ prefix size least limit xs ys ms ss cs vs ws ns ts g n u k l h)
 
   module _ (floor : ℕ) (f : floor ≡ max 1 least) where
     pub loop_stop : (ds : List ℕ) → NextDone None g n prefix limit floor (pieces vs ws n) cs ds → TrainedDone (Ok told) w₀ n₀ u₀ prefix size least limit bs xs ys ms ss vs ws ns ts
     unfolding TrainedDone
-    loop_stop ds d = rw (← z) (stop es₀ n₀ u₀ prefix size least limit xs ys ms ss cs vs ws ns ts g n u k l floor f ds d)
+    loop_stop ds d = rw (← z, made) (stop es₀ n₀ u₀ prefix size least limit xs ys ms ss cs vs ws ns ts g n u k l floor f ds d)
 
     pub loop_out : (next : Next) (ds : List ℕ) → NextDone (Some next) g n prefix limit floor (pieces vs ws n) cs ds → n < size → (fs vs₂ ws₂ ns₂ ts₂ : List ℕ) (e : NoRoom)
         → ApplyDone (Err e) next.engine n u k next.left next.right next.count (joined prefix (piece_at vs ws next.left) (piece_at vs ws next.right)) ds vs ws ns ts fs vs₂ ws₂ ns₂ ts₂

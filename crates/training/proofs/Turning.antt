@@ -58,6 +58,8 @@ module _ (g : Engine) (n u k a b times : ℕ) (s cs xs ys ms ss ds vs ws ns ts :
   unfolding PieceDone MergeDone ApplyDone
   apply_done v m d e h j = (refl, d, e, j)
 
+pub ruleset apply_rules = (apply_full, apply_out, apply_done)
+
 -- THE LOOP. What stands in the rooms after k merges, where n pieces of u bytes were
 pub record Standing (n u : ℕ) (xs ys ms ss vs ws ns ts : List ℕ) (n' u' k : ℕ) : Type 0 where
   pub held : Held n' u' vs ws

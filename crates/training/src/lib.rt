@@ -34,7 +34,7 @@ pub struct Applied {
 }
 
 // Makes a pair the piece with the next number, in the output rooms and in the words, as the k-th merge.
-#[tactic(auto, using(crate::proofs::Turning::apply_full, crate::proofs::Turning::apply_out, crate::proofs::Turning::apply_done))]
+#[tactic(auto, using(crate::proofs::Turning::apply_rules))]
 fn apply(
     work: &mut [u8],
     next: Next,
@@ -75,8 +75,8 @@ pub struct Trained {
     pub merges: usize,
 }
 
-// Trains up to the size that is asked for, and no pair that counts less than the minimum or makes a piece over the limit; or
-// tells that the full answer exceeds an output room. What is known of the pairs is kept at p.
+// Trains up to the size that is asked for, and no pair that counts less than the minimum or makes a piece over the
+// limit; or tells that the full answer exceeds an output room. What is known of the pairs is kept at p.
 pub fn train_words(
     work: &mut [u8],
     set: WordSet,
@@ -101,8 +101,7 @@ pub fn train_words(
     let limit = settings.max_piece_length;
     let mut engine = engine::start(work, set, p, filled.count as u32);
     let mut now = filled;
-    let mut k = 0;
-    while (now.count as u64) < settings.vocab_size {
+    for k in 0..settings.vocab_size as usize - filled.count {
         let Some(next) = choosing::next_merge(
             work, engine, pieces, ends, now, prefix, limit, enough,
         ) else {
@@ -111,10 +110,9 @@ pub fn train_words(
         let a = apply(work, next, pieces, ends, merges, savings, now, k, prefix)?;
         engine = a.engine;
         now = a.filled;
-        k += 1;
     }
     Ok(Trained {
         filled: now,
-        merges: k,
+        merges: now.count - filled.count,
     })
 }
