@@ -34,6 +34,8 @@ fn peek(room: &[u8], at: usize, left: usize, j: usize) -> Option<u32>
 
 // The step at the front of the `left` symbols from the cell `at` on. `previous` is the symbol that
 // stands before in the rewritten word, if any.
+// Stays: the twin of look in symbols, over cells. What both share is step::decide; one function for
+// both would take a closure that reads, with a clause on it, in place of three lines.
 pub fn look(room: &[u8], at: usize, left: usize, previous: Option<u32>, rule: Rule) -> Step
     requires { (at + left ≤ length (cells room.now)) × (0 < left) }
     ensures { Looked rule.a rule.b rule.x previous at left (cells room.now) result }
@@ -45,6 +47,7 @@ pub fn look(room: &[u8], at: usize, left: usize, previous: Option<u32>, rule: Ru
 }
 
 // What a step from the cell `at` leaves in a cell. A kept symbol takes its whole cell along.
+#[tactic(auto, unfolding(crate::specs::Cells::leaves))]
 pub fn left_by(room: &[u8], at: usize, st: Step) -> u64
     requires { at < length (cells room.now) }
     ensures { result ≡ leaves st (nth (cells room.now) at) }
