@@ -17,19 +17,17 @@ fn write_number(rt: &impl Print, n: usize) -> io::Result<()> {
     print!(rt; "{n}")
 }
 
-// Writes the lengths of the units from `from` to `to`, and whether they sum up to the whole.
-fn lengths(rt: &impl Print, s: &[u8], from: usize, to: usize, whole: bool) -> io::Result<()>
-    requires { (from ≤ to) × (to ≤ length s.now) }
-{
-    let mut at = from;
+// Writes the lengths of a word's units, and whether they sum up to the whole.
+fn lengths(rt: &impl Print, word: &[u8], whole: bool) -> io::Result<()> {
+    let mut at = 0;
     let mut sum = 0;
-    while at < to {
-        let end = text::next_unit(s, at, to, whole);
+    while at < word.len() {
+        let end = text::next_unit(word, at, whole);
         write_number(rt, end - at)?;
         sum += end - at;
         at = end;
     }
-    if sum == to - from {
+    if sum == word.len() {
         rt.write_all(b"=")
     } else {
         rt.write_all(b"!")
@@ -37,19 +35,17 @@ fn lengths(rt: &impl Print, s: &[u8], from: usize, to: usize, whole: bool) -> io
 }
 
 // Writes the line of a word.
-fn report(rt: &impl Print, s: &[u8], from: usize, to: usize) -> io::Result<()>
-    requires { (from ≤ to) × (to ≤ length s.now) }
-{
-    let whole = text::whole(s, from, to, Seeding::Chars);
+fn report(rt: &impl Print, word: &[u8]) -> io::Result<()> {
+    let whole = text::whole(word, Seeding::Chars);
     if whole {
         rt.write_all(b"c")?;
     } else {
         rt.write_all(b"b")?;
     }
-    write_number(rt, text::count_units(s, from, to, Seeding::Chars))?;
+    write_number(rt, text::count_units(word, Seeding::Chars))?;
     rt.write_all(b":")?;
-    lengths(rt, s, from, to, whole)?;
-    write_number(rt, text::count_units(s, from, to, Seeding::Bytes))?;
+    lengths(rt, word, whole)?;
+    write_number(rt, text::count_units(word, Seeding::Bytes))?;
     rt.write_all(b"\n")
 }
 
@@ -57,7 +53,7 @@ fn report(rt: &impl Print, s: &[u8], from: usize, to: usize) -> io::Result<()>
 fn word(rt: &impl Print, line: &[u8]) -> io::Result<()> {
     let mut room = [0x80u8; 64];
     let to = inputs::spell(&mut room, 8, line);
-    report(rt, &room, 8, to)
+    report(rt, &room[8..to])
 }
 
 // Where the line at `at` ends: at its LF, or with the input.

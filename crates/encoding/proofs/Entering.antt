@@ -2,12 +2,11 @@
 use mathlib.Core.Path.{◌≡◌, refl, sym, ap, ◌∙◌}
 use mathlib.Core.List.{List, [], ◌∷◌, ◌++◌, append-nil, append_assoc, map, flat_map, foldl}
 use mathlib.Core.Logic.{inl}
-use Prim.Native.Nat.{ℕ, ◌+◌, ◌-◌, ◌*◌, ◌<◌, ◌≤◌}
+use Prim.Native.Nat.{ℕ, ◌+◌, ◌*◌, ◌<◌, ◌≤◌}
 use native.Mathlib.Omega.{arith}
 use lib.ListN.{length}
 use mathlib.Core.Bool.{Bool, ◌&&◌}
-use Rattle.runs.specs.Parts.{nth, part}
-use Rattle.runs.proofs.Parts.{part_all}
+use Rattle.runs.specs.Parts.{nth}
 use Rattle.rfc3629.specs.Cut.{well_formed, units_by}
 use Rattle.text.specs.Units.{by_chars}
 use Rattle.text.specs.declared.Seeding.{Seeding}
@@ -36,10 +35,8 @@ use Rattle.std.specs.Prelude.{Result, Ok, Err, IsErr}
 
 -- ONE WORD: us are its units, however the code came by them
 pub entry_units : (d : Seeding) (seeding : ℕ) → by_chars d ≡ chars seeding → (whole : Bool) (v : List ℕ)
-    → whole ≡ (by_chars d && well_formed (part 0 (length v - 0) v)) → units_by whole v ≡ units seeding v
-entry_units d seeding c whole v e =
-    let z : part 0 (length v - 0) v ≡ v = part_all (length v - 0) v (omega arith) in
-    start_units d seeding c whole v (rw z at e)
+    → whole ≡ (by_chars d && well_formed v) → units_by whole v ≡ units seeding v
+entry_units d seeding c whole v e = start_units d seeding c whole v e
 
 pub entry_room : (us ms : List (List ℕ)) (n base : ℕ) → ms ≡ us → n + length us ≤ base → n + length ms ≤ base
 entry_room us ms n base e h = rw e h

@@ -84,7 +84,7 @@ fn seed_word(
     let mut at = 0;
     let mut n = 0;
     while at < word.len() {
-        let end = text::next_unit(word, at, word.len(), whole);
+        let end = text::next_unit(word, at, whole);
         let prefix = side(n != 0, t.prefix);
         let suffix = side(end == word.len(), t.suffix);
         let spelling = Spelling {
@@ -131,7 +131,7 @@ fn seed_entry(
 {
     let w = so_far.words;
     pushing::open(room, w, frequency);
-    let whole = text::whole(word, 0, word.len(), Seeding::from_number(t.seeding));
+    let whole = text::whole(word, Seeding::from_number(t.seeding));
     let worded = seed_word(room, w, ring, pieces, ends, so_far.filled, word, whole, t)?;
     let words = pushing::push(room, w, worded.symbols);
     Ok(Encoded {

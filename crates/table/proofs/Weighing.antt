@@ -4,10 +4,10 @@ use mathlib.Core.List.{List, map}
 use Prim.Native.Nat.{ℕ, ◌+◌, ◌*◌, ◌-◌, ◌/◌, ◌^◌, ◌≤◌, ◌<◌}
 use native.Mathlib.Omega.{arith}
 use native.Mathlib.Nat.{le-div_iff_mul-le, div-lt_iff_lt-mul}
-use lib.ListN.{length}
+use lib.ListN.{length, take, drop}
 use borrow.Author.Tests.{lt-ltb, le-ltb}
 use Rattle.runs.specs.Parts.{nth}
-use Rattle.runs.proofs.Parts.{below_or_not}
+use Rattle.runs.proofs.Parts.{below_or_not, length-part, part_lent}
 use Rattle.numbers.specs.Little.{numbers}
 use Rattle.rule.specs.Shapes.{parts}
 use Rattle.rule.specs.Table.{chars, units, units_of, total, weighed}
@@ -21,8 +21,15 @@ use Rattle.table.specs.Weighing.{unit_count, UnitsIn, capped, Heavier, IsWeighed
 -- THE UNITS OF A WORD, as they are counted
 
 pub units_counted : (seeding : ℕ) (d : Seeding) (ws : List ℕ) (from to r : ℕ) → from ≤ to → to ≤ length ws
-    → by_chars d ≡ chars seeding → Counted (by_chars d) ws from to r → UnitsIn seeding ws from to r
-units_counted seeding d ws from to r h k e n = record { is = counted_units d seeding e ws from to r n; few = n.few; up = h; inside = k }
+    → by_chars d ≡ chars seeding → Counted (by_chars d) (take (to - from) (drop from ws)) r → UnitsIn seeding ws from to r
+units_counted seeding d ws from to r h k e n =
+    let l : length (take (to - from) (drop from ws)) ≡ to - from = rw (part_lent from to ws) (length-part from (to - from) ws (omega arith)) in
+    record {
+      is = counted_units d seeding e (take (to - from) (drop from ws)) r n ∙ rw (part_lent from to ws);
+      few = omega (arith, n.few, l);
+      up = h;
+      inside = k;
+    }
 
 -- A WEIGHT UP TO 2^53
 

@@ -162,7 +162,7 @@ fn units_in(words: &[u8], from: usize, to: usize, seeding: u64) -> u64
     requires { (from ≤ to) × (to ≤ length words.now) }
     ensures { UnitsIn seeding words.now from to result }
 {
-    text::count_units(words, from, to, Seeding::from_number(seeding)) as u64
+    text::count_units(&words[from..to], Seeding::from_number(seeding)) as u64
 }
 
 // A weight with one word more, up to the number that is too heavy.

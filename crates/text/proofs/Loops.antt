@@ -5,10 +5,10 @@ use mathlib.Core.Bool.{Bool, true, false, not, ◌&&◌}
 use mathlib.Core.List.{List, [], ◌∷◌}
 use Prim.Native.Nat.{ℕ, suc, ◌+◌, ◌-◌, ◌≤◌, ◌<◌}
 use native.Mathlib.Omega.{arith}
-use lib.ListN.{length, take, drop, length-map}
+use lib.ListN.{length, drop, length-map, length-drop}
+use lib.Seq.{take_all}
 use borrow.Author.Tests.{not-true, eq-eqb, ne_eqb}
 use Rattle.runs.specs.Parts.{part}
-use Rattle.runs.proofs.Parts.{length-part, part_lent}
 use Rattle.rfc3629.specs.Rows.{char_len}
 use Rattle.rfc3629.specs.Cut.{well_formed, unit_len, units_by, cut, seeded, singles}
 use Rattle.rfc3629.proofs.Rows.{len_bounds}
@@ -90,10 +90,7 @@ module _ (w : List ℕ) (i k : ℕ) (t : Some k ≡ some_length (char_len (rest 
       let v : length (units_by true (rest i w)) ≡ suc (length (units_by true (rest (i + k) w))) = rw (l, rest_on i w k) at u in
       omega arith
 
--- A WORD AS IT IS LENT
-
-pub well_lent : (r : Bool) (s : List ℕ) (from to : ℕ) → r ≡ well_formed (take (to - from) (drop from s)) → r ≡ well_formed (part from (to - from) s)
-well_lent r s from to e = e ∙ rw (part_lent from to s)
+-- A WORD, SEEDING BY SEEDING
 
 module _ (d : Seeding) where
   pub whole_bytes : (t : Bool) → d ≡ Bytes → false ≡ (by_chars d && t)
@@ -104,45 +101,38 @@ module _ (d : Seeding) where
   unfolding by_chars setting_of
   whole_chars r t e h = rw e h
 
-  module _ (s : List ℕ) (from to : ℕ) (b : to ≤ length s) where
-    pub count_bytes : d ≡ Bytes → from ≤ to → Counted (by_chars d) s from to (to - from)
+  module _ (w : List ℕ) where
+    pub count_bytes : d ≡ Bytes → Counted (by_chars d) w (length w)
     unfolding by_chars setting_of
-    count_bytes e a =
-        let l = length-part from (to - from) s (omega arith) in
-        record {
-          is = rw (e, seeded_bytes (part from (to - from) s)) (sym (singles-length (part from (to - from) s) ∙ l));
-          few = omega arith;
-        }
+    count_bytes e = record { is = rw (e, seeded_bytes w) (sym (singles-length w)); few = omega arith }
 
-    pub count-chars : (r : ℕ) → d ≡ Chars → from ≤ to → r ≡ length (cut (take (to - from) (drop from s))) → Counted (by_chars d) s from to r
+    pub count-chars : (r : ℕ) → d ≡ Chars → r ≡ length (cut w) → Counted (by_chars d) w r
     unfolding by_chars setting_of
-    count-chars r e a h =
-        let l = length-part from (to - from) s (omega arith) in
-        let i : r ≡ length (seeded true (part from (to - from) s)) = h ∙ rw (part_lent from to s, seeded-chars) in
-        record { is = rw e i; few = omega (arith, seeded_few true (part from (to - from) s)) }
+    count-chars r e h =
+        let i : r ≡ length (seeded true w) = h ∙ rw seeded-chars in
+        record { is = rw e i; few = omega (arith, seeded_few true w) }
 
-pub ruleset whole_rules = (whole_bytes, whole_chars, well_lent)
+pub ruleset whole_rules = (whole_bytes, whole_chars)
 
 -- ONE UNIT
 
-module _ (c : Bool) (s : List ℕ) (at to : ℕ) (a : at < to) (b : to ≤ length s) where
-  next_is : (k : ℕ) → k ≡ unit_len c (part at (to - at) s) → Next c s at to (at + k)
+module _ (c : Bool) (w : List ℕ) (at : ℕ) (a : at < length w) where
+  here : part at (length w - at) w ≡ rest at w
+  unfolding part rest
+  here = take_all (length w - at) (drop at w) (omega (arith, length-drop at w))
+
+  next_is : (k : ℕ) → k ≡ unit_len c (rest at w) → Next c w at (length w) (at + k)
   next_is k e =
-      let l = length-part at (to - at) s (omega arith) in
-      let u = unit_bounds c (part at (to - at) s) (omega arith) in
-      record { is = ap (λ j. at + j) e; on = omega arith; inside = omega arith }
+      let u = unit_bounds c (rest at w) (omega (arith, rest-length at w)) in
+      record { is = rw here (ap (λ j. at + j) e); on = omega arith; inside = omega (arith, rest-length at w) }
 
-  pub next_byte : not c ≡ true → Next c s at to (at + 1)
-  next_byte h = next_is 1 (rw (not-true c h) (sym (unit_byte (part at (to - at) s))))
+  pub next_byte : not c ≡ true → Next c w at (length w) (at + 1)
+  next_byte h = next_is 1 (rw (not-true c h) (sym (unit_byte (rest at w))))
 
-  lent : char_len (rest 0 (take (to - at) (drop at s))) ≡ char_len (part at (to - at) s)
-  lent = rw (rest_all (take (to - at) (drop at s)), part_lent at to s)
+  pub next_none : None ≡ some_length (char_len (rest at w)) → Next c w at (length w) (at + 1)
+  next_none t = next_is 1 (sym (unit_none c (rest at w) (sym (len_none _ t))))
 
-  pub next_none : None ≡ some_length (char_len (rest 0 (take (to - at) (drop at s)))) → Next c s at to (at + 1)
-  next_none t = next_is 1 (sym (unit_none c (part at (to - at) s) (sym lent ∙ sym (len_none _ t))))
-
-  pub next_char : (k : ℕ) → c ≡ true → Some k ≡ some_length (char_len (rest 0 (take (to - at) (drop at s)))) → Next c s at to (at + k)
+  pub next_char : (k : ℕ) → c ≡ true → Some k ≡ some_length (char_len (rest at w)) → Next c w at (length w) (at + k)
   next_char k h t =
-      let q = len_some k (char_len (rest 0 (take (to - at) (drop at s)))) t in
-      let l : k ≡ char_len (part at (to - at) s) = q.0 ∙ lent in
-      next_is k (l ∙ rw h (sym (unit_char (part at (to - at) s) (omega (arith, q.1)))))
+      let q = len_some k (char_len (rest at w)) t in
+      next_is k (q.0 ∙ rw h (sym (unit_char (rest at w) (omega (arith, q.1)))))

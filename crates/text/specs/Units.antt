@@ -21,7 +21,7 @@ pub record Next (whole : Bool) (s : List ℕ) (at to r : ℕ) : Type 0 where
   pub on : at < r
   pub inside : r ≤ to
 
--- r is the number of units of the word from `from` to `to`, under Chars (true) or Bytes (false)
-pub record Counted (byCharacters : Bool) (s : List ℕ) (from to r : ℕ) : Type 0 where
-  pub is : r ≡ length (seeded byCharacters (part from (to - from) s))
-  pub few : r ≤ to - from
+-- r is the number of units of a word, under Chars (true) or Bytes (false)
+pub record Counted (byCharacters : Bool) (w : List ℕ) (r : ℕ) : Type 0 where
+  pub is : r ≡ length (seeded byCharacters w)
+  pub few : r ≤ length w

@@ -63,40 +63,36 @@ fn count_chars(word: &[u8]) -> usize
     n
 }
 
-// Tells whether the word from `from` to `to` is cut into characters.
-// Stays: a word is told by its two places in the run, here and in `count_units` and `next_unit`: callers
-// go over a run by the ends of its words, and answers are places of that run, so a slice is no plainer.
+// Tells whether a word is cut into characters.
 #[tactic(auto, using(crate::proofs::Loops::whole_rules))]
-pub fn whole(s: &[u8], from: usize, to: usize, seeding: Seeding) -> bool
-    requires { (from ≤ to) × (to ≤ length s.now) }
-    ensures { result ≡ (by_chars seeding && well_formed (part from (to - from) s.now)) }
+pub fn whole(word: &[u8], seeding: Seeding) -> bool
+    ensures { result ≡ (by_chars seeding && well_formed word.now) }
 {
     match seeding {
         Seeding::Bytes => false,
-        Seeding::Chars => all_chars(&s[from..to]),
+        Seeding::Chars => all_chars(word),
     }
 }
 
-// How many units the word from `from` to `to` has.
-pub fn count_units(s: &[u8], from: usize, to: usize, seeding: Seeding) -> usize
-    requires { (from ≤ to) × (to ≤ length s.now) }
-    ensures { Counted (by_chars seeding) s.now from to result }
+// How many units a word has.
+pub fn count_units(word: &[u8], seeding: Seeding) -> usize
+    ensures { Counted (by_chars seeding) word.now result }
 {
     match seeding {
-        Seeding::Bytes => to - from,
-        Seeding::Chars => count_chars(&s[from..to]),
+        Seeding::Bytes => word.len(),
+        Seeding::Chars => count_chars(word),
     }
 }
 
-// Where the unit at `at` ends, in a word that ends at `to` and is cut as `whole` told of it.
-pub fn next_unit(s: &[u8], at: usize, to: usize, whole: bool) -> usize
-    requires { (at < to) × (to ≤ length s.now) }
-    ensures { Next whole s.now at to result }
+// Where the unit at `at` ends, in a word that is cut as `whole` told of it.
+pub fn next_unit(word: &[u8], at: usize, whole: bool) -> usize
+    requires { at < length word.now }
+    ensures { Next whole word.now at (length word.now) result }
 {
     if !whole {
         return at + 1;
     }
-    match chars::char_len(&s[at..to], 0) {
+    match chars::char_len(word, at) {
         Some(k) => at + k,
         None => at + 1,
     }
