@@ -9,24 +9,24 @@ ghost use Rattle.rule.specs.Sums.{symbols_in};
 ghost use Rattle.word.specs.Layout.{symbols_at, corpus, Words, words_in};
 ghost use Rattle.counting.specs.Counting.{Tested, Counted};
 
-use word::WordSet;
+use word::{Span, WordSet};
 
 // 1 where (s,t) is (p,q), else 0.
 fn hit(s: u32, t: u32, p: u32, q: u32) -> u64
     ensures { Tested p q s t result }
 {
-    if s == p && t == q { 1 } else { 0 }
+    u64::from(s == p && t == q)
 }
 
-// How many adjacent positions of the n symbols from the cell `start` on hold (p,q). Overlaps count.
-fn count_in(room: &[u8], start: usize, n: usize, p: u32, q: u32) -> u64
-    requires { start + n ≤ length (cells room.now) }
-    ensures { result ≡ count_in p q (symbols_at start n (cells room.now)) }
+// How many adjacent positions of a word's symbols hold (p,q). Overlaps count.
+fn count_in(room: &[u8], at: Span, p: u32, q: u32) -> u64
+    requires { at.start + at.length ≤ length (cells room.now) }
+    ensures { result ≡ count_in p q (symbols_at at.start at.length (cells room.now)) }
 {
     let mut hits = 0;
-    for i in 1..n {
-        let s = word::symbol(room, start + i - 1);
-        let t = word::symbol(room, start + i);
+    for i in 1..at.length {
+        let s = word::symbol(room, at.start + i - 1);
+        let t = word::symbol(room, at.start + i);
         hits += hit(s, t, p, q);
     }
     hits
@@ -40,7 +40,7 @@ fn add_word(room: &[u8], w: WordSet, k: usize, p: u32, q: u32, sum: u64) -> u64
     ensures { Counted (corpus (cells room.now) w.starts w.count) k p q sum result }
 {
     let at = word::word(room, w, k);
-    let hits = count_in(room, at.start, at.length, p, q);
+    let hits = count_in(room, at, p, q);
     let f = word::frequency(room, w, k);
     sum + f * hits
 }

@@ -34,8 +34,7 @@ fn peek(room: &[u8], at: usize, left: usize, j: usize) -> Option<u32>
 
 // The step at the front of the `left` symbols from the cell `at` on. `previous` is the symbol that
 // stands before in the rewritten word, if any.
-// Stays: the twin of look in symbols, over cells. What both share is step::decide; one function for
-// both would take a closure that reads, with a clause on it, in place of three lines.
+// Stays: the twin of symbols::look over cells. Both call step::decide; a closure to read by would be no plainer.
 pub fn look(room: &[u8], at: usize, left: usize, previous: Option<u32>, rule: Rule) -> Step
     requires { (at + left ≤ length (cells room.now)) × (0 < left) }
     ensures { Looked rule.a rule.b rule.x previous at left (cells room.now) result }

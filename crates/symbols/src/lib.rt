@@ -37,8 +37,7 @@ fn symbol(symbols: &[u8], i: usize) -> Option<u32>
 
 // The step at the front of the symbols from i on. `previous` is the symbol that stands before in the
 // rewritten word, if any.
-// Stays: the twin of look in merge, over 4 bytes a symbol. What both share is step::decide; one
-// function for both would take a closure that reads, with a clause on it, in place of three lines.
+// Stays: the twin of merge::look over runs. Both call step::decide; a closure to read by would be no plainer.
 fn look(symbols: &[u8], i: usize, previous: Option<u32>, rule: Rule) -> Step
     requires { i < length symbols.now / 4 }
     ensures { StepAt rule.a rule.b rule.x previous (drop i (numbers 4 symbols.now)) result }

@@ -8,9 +8,9 @@ use Rattle.word.specs.Layout.{symbols_at}
 use Rattle.counting.proofs.count_in.Given as goal
 
 abbrev pub invariant-loop-i : goal.invariant-loop-i
-invariant-loop-i l = (l.fn.start + l.fn.n ≤ length (cells l.fn.room))
+invariant-loop-i l = (l.fn.at.start + l.fn.at.length ≤ length (cells l.fn.room))
     × (length (cells l.fn.room) < 2 ^ 61)
-    × (l.i ≤ l.fn.n + 1)
+    × (l.i ≤ l.fn.at.length + 1)
     × (l.hits + 1 ≤ l.i)
-    × (count_in l.fn.p l.fn.q (symbols_at l.fn.start l.fn.n (cells l.fn.room))
-    ≡ l.hits + count_in l.fn.p l.fn.q (symbols_at (l.fn.start + l.i - 1) (l.fn.n + 1 - l.i) (cells l.fn.room)))
+    × (count_in l.fn.p l.fn.q (symbols_at l.fn.at.start l.fn.at.length (cells l.fn.room))
+    ≡ l.hits + count_in l.fn.p l.fn.q (symbols_at (l.fn.at.start + l.i - 1) (l.fn.at.length + 1 - l.i) (cells l.fn.room)))
