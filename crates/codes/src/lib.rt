@@ -76,7 +76,7 @@ fn put(out: &mut [u8], at: usize, spelling: &[u8], byte: u8) -> usize
     requires { at + (length spelling.now + 1) ≤ length out.old }
     ensures { Placed out.old out.new at (spelling.now ++ (byte ∷ [])) result }
 {
-    runs::copy(out, at, spelling, 0, spelling.len());
+    runs::copy(out, at, spelling);
     let end = at + spelling.len();
     out[end] = byte;
     end + 1

@@ -160,7 +160,7 @@ fn write_line(
     let space = find_from(line, 0, SPACE);
     let end = used + space;
     let frequency = value(&line[space + 1..]);
-    runs::copy(words, used, line, 0, space);
+    runs::copy(words, used, &line[..space]);
     numbers::store4(word_ends, n * 4, end as u32);
     numbers::store8(frequencies, n * 8, frequency);
     end

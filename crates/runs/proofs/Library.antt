@@ -22,11 +22,8 @@ module _ (xs : List ℕ) (at n : ℕ) where
   unfolding zeros
   cleared ys e = mid_laid xs ys at n (ap length e ∙ length-zeros n) ∙ ap (laid xs at) e
 
-  pub copied : (ys other : List ℕ) (from : ℕ) → from + n ≤ length other → ys ≡ take (from + n - from) (drop from other)
-      → put_mid at (at + n - at) xs ys ≡ laid xs at (part from n other)
-  copied ys other from h e =
-      let p : ys ≡ part from n other = e ∙ part_lent_on from n other in
-      mid_laid xs ys at n (ap length p ∙ length-part from n other h) ∙ ap (laid xs at) p
+  pub copied : (ys other : List ℕ) → length other ≡ n → ys ≡ other → put_mid at (at + n - at) xs ys ≡ laid xs at other
+  copied ys other l e = mid_laid xs ys at n (ap length e ∙ l) ∙ ap (laid xs at) e
 
   pub copied_within : (from : ℕ) → from + n ≤ length xs → copy_within xs from (from + n) at ≡ laid xs at (part from n xs)
   unfolding laid

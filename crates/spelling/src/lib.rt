@@ -40,11 +40,11 @@ pub fn decorate(run: &mut [u8], at: usize, spelling: Spelling) -> usize
         unit,
         suffix,
     } = spelling;
-    runs::copy(run, at, prefix, 0, prefix.len());
+    runs::copy(run, at, prefix);
     let middle = at + prefix.len();
-    runs::copy(run, middle, unit, 0, unit.len());
+    runs::copy(run, middle, unit);
     let ending = middle + unit.len();
-    runs::copy(run, ending, suffix, 0, suffix.len());
+    runs::copy(run, ending, suffix);
     ending + suffix.len()
 }
 
