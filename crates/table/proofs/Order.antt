@@ -19,7 +19,7 @@ use Rattle.vocab.proofs.Shaped.{shaped_rises, risen_up, risen_under, risen_rest}
 use Rattle.table.specs.Answers.{first_place}
 use Rattle.table.proofs.Rows.{place_from, place_start, place_here, place_later, place_end}
 
--- BYTE ORDER of two parts lent
+-- BYTE ORDER as it is asked
 
 lt_below : (o : Ordering) → is_lt o ≡ is_below o
 unfolding is_below
@@ -27,10 +27,9 @@ lt_below Less = refl
 lt_below Equal = refl
 lt_below Greater = refl
 
-pub below_lent : (from to end : ℕ) (ws : List ℕ) (o : Ordering) (b : Bool) → o ≡ compared (take (to - from) (drop from ws)) (take (end - to) (drop to ws))
-    → b ≡ is_lt o → b ≡ below (part from (to - from) ws) (part to (end - to) ws)
-unfolding below part
-below_lent from to end ws o b e h = h ∙ lt_below o ∙ ap is_below e
+pub below_lent : (v w : List ℕ) (o : Ordering) (b : Bool) → o ≡ compared v w → b ≡ is_lt o → b ≡ below v w
+unfolding below
+below_lent v w o b e h = h ∙ lt_below o ∙ ap is_below e
 
 -- ENDS THAT ARE SHAPED rise, from the first and from the second on
 
@@ -58,9 +57,10 @@ module _ (ws es : List ℕ) where
     unfolding low_from not_above
     low_end h = sym (inv ∙ rw (parts_end ws es i to h) (place_end i))
 
-    module _ (e : ℕ) (h : i < length es / 4) (q : e ≡ nth (numbers 4 es) i) (b : Bool) (f : b ≡ below (part from (to - from) ws) (part to (e - to) ws)) where
+    module _ (e : ℕ) (h : i < length es / 4) (q : e ≡ nth (numbers 4 es) i) (b : Bool)
+        (f : b ≡ below (take (to - from) (drop from ws)) (take (e - to) (drop to ws))) where
       here : low_from ws from to es i ≡ place_from i (not b ∷ not_above (part to (e - to) ws ∷ parts ws e (numbers_from 4 es (i + 1))))
-      unfolding low_from not_above
+      unfolding low_from not_above part
       here = rw (parts_step ws es i to e h q, f)
 
       pub low_out : not b ≡ true → Some i ≡ k
