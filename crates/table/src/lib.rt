@@ -155,13 +155,12 @@ fn first_low(words: &[u8], ends: &[u8]) -> Option<usize>
     None
 }
 
-// How many units the word from `from` to `to` has.
+// How many units a word has.
 #[tactic(auto, using(crate::proofs::Weighing::units_counted))]
-fn units_in(words: &[u8], from: usize, to: usize, seeding: u64) -> u64
-    requires { (from ≤ to) × (to ≤ length words.now) }
-    ensures { UnitsIn seeding words.now from to result }
+fn units_in(word: &[u8], seeding: u64) -> u64
+    ensures { UnitsIn seeding word.now result }
 {
-    text::count_units(&words[from..to], Seeding::from_number(seeding)) as u64
+    text::count_units(word, Seeding::from_number(seeding)) as u64
 }
 
 // A weight with one word more, up to the number that is too heavy.
@@ -200,7 +199,7 @@ fn weigh(t: Table) -> Weighed
     for n in 0..t.word_ends.len() / 4 {
         let end = vocab::end_at(t.word_ends, n);
         let f = frequency_at(t.frequencies, n);
-        let u = units_in(t.words, last, end, t.seeding);
+        let u = units_in(&t.words[last..end], t.seeding);
         weight = heavier(weight, f, u);
         units += u;
         last = end;
