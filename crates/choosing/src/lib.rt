@@ -15,7 +15,7 @@ ghost use Rattle.choosing.specs.Turns.{Corrected, Counts, Blocked, TurnDone};
 
 use engine::Engine;
 use marks::Mark;
-use pairs::Pairs;
+use pairs::{Pair, Pairs};
 use queue::Candidate;
 use std::ops::ControlFlow;
 use vocab::Filled;
@@ -54,7 +54,14 @@ fn live_count(room: &[u8], p: Pairs, key: u64) -> u64
     ensures { result ≡ (state p (cells room.now) key).count }
 {
     match pairs::find(room, p, key) {
-        Some(r) => fields::count(room, p, key, r),
+        Some(number) => fields::count(
+            room,
+            Pair {
+                pairs: p,
+                key,
+                number,
+            },
+        ),
         None => 0,
     }
 }
@@ -77,9 +84,13 @@ fn block(room: &mut [u8], p: Pairs, key: u64)
     requires { Counts p key (cells room.old) }
     ensures { Blocked p key (cells room.old) (cells room.new) }
 {
-    let r = pairs::find(room, p, key).unwrap();
-    let m = marks::set(Mark::Blocked, fields::marks(room, p, key, r));
-    fields::set_marks(room, p, key, r, m);
+    let pair = Pair {
+        pairs: p,
+        key,
+        number: pairs::find(room, p, key).unwrap(),
+    };
+    let m = marks::set(Mark::Blocked, fields::marks(room, pair));
+    fields::set_marks(room, pair, m);
 }
 
 // Takes the head of the queue. The tests are in this order: stale, the minimum, the length. The run goes on with the

@@ -12,7 +12,7 @@ ghost use Rattle.pairs.specs.Pairs.{Has, Updated};
 ghost use Rattle.engine.specs.Engine.{CanStart, Started, CanJoin, JoinDone, CanClear, Cleared, Tidied};
 
 use marks::Mark;
-use pairs::Pairs;
+use pairs::{Pair, Pairs};
 use step::Rule;
 use word::WordSet;
 
@@ -38,19 +38,17 @@ fn clear(room: &mut [u8], p: Pairs)
 }
 
 // The pair that is merged counts as touched: it is not put on the list, and not released while its words are read.
-fn mark(room: &mut [u8], p: Pairs, key: u64, r: usize)
-    requires { Has p key r (cells room.old) }
-    ensures { Updated p key r
-        (record {
-          count = (state p (cells room.old) key).count;
-          marks = marking touched true (state p (cells room.old) key).marks;
-          words = (state p (cells room.old) key).words;
+fn mark(room: &mut [u8], pair: Pair)
+    requires { Has pair.pairs pair.key pair.number (cells room.old) }
+    ensures { Updated pair.pairs pair.key pair.number
+        (record (state pair.pairs (cells room.old) pair.key) {
+          marks = marking touched true (state pair.pairs (cells room.old) pair.key).marks;
         })
         (cells room.old) (cells room.new) }
 {
-    let m = fields::marks(room, p, key, r);
+    let m = fields::marks(room, pair);
     let touched = marks::set(Mark::Touched, m);
-    fields::set_marks(room, p, key, r, touched);
+    fields::set_marks(room, pair, touched);
 }
 
 // Closes the gaps between the words, where these take more cells than the symbols.
@@ -89,7 +87,12 @@ pub fn join(room: &mut [u8], g: Engine, rule: Rule) -> Engine
     let p = g.pairs;
     let key = states::key(rule.a, rule.b);
     let r = pairs::find(room, p, key).unwrap();
-    mark(room, p, key, r);
+    let pair = Pair {
+        pairs: p,
+        key,
+        number: r,
+    };
+    mark(room, pair);
     let d = joining::merge_words(room, g.words, p, r, rule, 0);
     let waiting = settling::settle(room, p, g.queue, g.waiting, d.touched);
     pairs::remove(room, p, key);

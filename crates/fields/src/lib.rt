@@ -7,7 +7,7 @@ ghost use Rattle.records.specs.Records.{field, Within, CanPut, FieldPut};
 ghost use Rattle.pairs.specs.View.{arena_at, key_in, state};
 ghost use Rattle.pairs.specs.Pairs.{Pairing, Has, Updated};
 
-use pairs::Pairs;
+use pairs::{Pair, Pairs};
 
 // The fields of a record by number: its key, its count, its marks, how many words it has.
 const KEY: usize = 0;
@@ -49,35 +49,36 @@ pub fn key_of(room: &[u8], p: Pairs, r: usize) -> u64
     get(room, p, r, KEY)
 }
 
-// The count of a pair that has the record r.
-// Stays: the key beside the record, as two numbers. A struct is no plainer: each caller finds one by the other.
-pub fn count(room: &[u8], p: Pairs, key: u64, r: usize) -> u64
-    requires { Has p key r (cells room.now) }
-    ensures { result ≡ (state p (cells room.now) key).count }
+// The count of a pair that has a record.
+pub fn count(room: &[u8], pair: Pair) -> u64
+    requires { Has pair.pairs pair.key pair.number (cells room.now) }
+    ensures { result ≡ (state pair.pairs (cells room.now) pair.key).count }
 {
-    get(room, p, r, COUNT)
+    get(room, pair.pairs, pair.number, COUNT)
 }
 
 // Its marks.
-pub fn marks(room: &[u8], p: Pairs, key: u64, r: usize) -> u8
-    requires { Has p key r (cells room.now) }
-    ensures { result ≡ (state p (cells room.now) key).marks }
+pub fn marks(room: &[u8], pair: Pair) -> u8
+    requires { Has pair.pairs pair.key pair.number (cells room.now) }
+    ensures { result ≡ (state pair.pairs (cells room.now) pair.key).marks }
 {
-    (get(room, p, r, MARKS) % 256) as u8
+    (get(room, pair.pairs, pair.number, MARKS) % 256) as u8
 }
 
 // Sets its count.
-pub fn set_count(room: &mut [u8], p: Pairs, key: u64, r: usize, v: u64)
-    requires { Has p key r (cells room.old) }
-    ensures { Updated p key r (record (state p (cells room.old) key) { count = v }) (cells room.old) (cells room.new) }
+pub fn set_count(room: &mut [u8], pair: Pair, v: u64)
+    requires { Has pair.pairs pair.key pair.number (cells room.old) }
+    ensures { Updated pair.pairs pair.key pair.number (record (state pair.pairs (cells room.old) pair.key) { count = v })
+        (cells room.old) (cells room.new) }
 {
-    put(room, p, r, COUNT, v);
+    put(room, pair.pairs, pair.number, COUNT, v);
 }
 
 // Sets its marks.
-pub fn set_marks(room: &mut [u8], p: Pairs, key: u64, r: usize, v: u8)
-    requires { Has p key r (cells room.old) }
-    ensures { Updated p key r (record (state p (cells room.old) key) { marks = v }) (cells room.old) (cells room.new) }
+pub fn set_marks(room: &mut [u8], pair: Pair, v: u8)
+    requires { Has pair.pairs pair.key pair.number (cells room.old) }
+    ensures { Updated pair.pairs pair.key pair.number (record (state pair.pairs (cells room.old) pair.key) { marks = v })
+        (cells room.old) (cells room.new) }
 {
-    put(room, p, r, MARKS, v as u64);
+    put(room, pair.pairs, pair.number, MARKS, v as u64);
 }

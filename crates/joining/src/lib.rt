@@ -11,7 +11,7 @@ ghost use Rattle.joining.specs.Joining.{Midway, JoinedWord, JoinedAll};
 ghost use Rattle.joining.specs.Running.{word_of, CanTell, Told, CanShorten, Shortened};
 ghost use Rattle.joining.specs.Visiting.{together, CanLook, Weights, Visiting};
 
-use pairs::Pairs;
+use pairs::{Pair, Pairs};
 use step::{Rule, Step};
 use word::WordSet;
 
@@ -85,49 +85,40 @@ fn batch(left: usize) -> usize
 
 // The frequencies of n words of a pair's list, from the i-th on. Each read waits for no other, so that the words are
 // fetched side by side, before the first is rewritten.
-fn frequencies(
-    room: &[u8],
-    w: WordSet,
-    p: Pairs,
-    key: u64,
-    r: usize,
-    i: usize,
-    n: usize,
-) -> [u64; 16]
-    requires { CanLook w p key r i n (cells room.now) }
-    ensures { Weights w p key i n (cells room.now) result }
+fn frequencies(room: &[u8], w: WordSet, pair: Pair, i: usize, n: usize) -> [u64; 16]
+    requires { CanLook w pair.pairs pair.key pair.number i n (cells room.now) }
+    ensures { Weights w pair.pairs pair.key i n (cells room.now) result }
 {
     let mut fs = [0u64; 16];
     for j in 0..n {
-        let k = lists::word_at(room, p, key, r, i + j) as usize;
+        let k = lists::word_at(room, pair, i + j) as usize;
         fs[j] = word::frequency(room, w, k);
     }
     fs
 }
 
-// Rewrites a pair in `some` words of its list, from the i-th on. Its record is r.
+// Rewrites the rule's pair in `some` words of its list, from the i-th on.
 fn merge_some(
     room: &mut [u8],
     begun: Joined,
-    p: Pairs,
-    r: usize,
+    pair: Pair,
     i: usize,
     some: usize,
     rule: Rule,
 ) -> Joined
-    requires midway { (Midway rule.a rule.b rule.x begun.words p begun.touched (cells room.old))
-        × (Has p (states.key rule.a rule.b) r (cells room.old)) }
-    requires some_in_bounds { (i + some ≤ length (state p (cells room.old) (states.key rule.a rule.b)).words)
+    requires of_rule { pair.key ≡ states.key rule.a rule.b }
+    requires midway { (Midway rule.a rule.b rule.x begun.words pair.pairs begun.touched (cells room.old))
+        × (Has pair.pairs (states.key rule.a rule.b) pair.number (cells room.old)) }
+    requires some_in_bounds { (i + some ≤ length (state pair.pairs (cells room.old) (states.key rule.a rule.b)).words)
         × (some ≤ 16) }
-    ensures { Visiting rule.a rule.b rule.x begun.words p r i (i + some) result.touched result.words
-        (cells room.old) (cells room.new) }
+    ensures { Visiting rule.a rule.b rule.x begun.words pair.pairs pair.number i (i + some)
+        result.touched result.words (cells room.old) (cells room.new) }
 {
-    let key = states::key(rule.a, rule.b);
-    let fs = frequencies(room, begun.words, p, key, r, i, some);
+    let fs = frequencies(room, begun.words, pair, i, some);
     let mut now = begun;
     for j in 0..some {
-        let k = lists::word_at(room, p, key, r, i + j) as usize;
-        now = merge_word(room, now, p, k, fs[j], rule);
+        let k = lists::word_at(room, pair, i + j) as usize;
+        now = merge_word(room, now, pair.pairs, k, fs[j], rule);
     }
     now
 }
@@ -139,8 +130,12 @@ pub fn merge_words(room: &mut [u8], w: WordSet, p: Pairs, r: usize, rule: Rule, 
         × (Has p (states.key rule.a rule.b) r (cells room.old)) }
     ensures { JoinedAll rule.a rule.b rule.x w p (cells room.old) (cells room.new) result }
 {
-    let key = states::key(rule.a, rule.b);
-    let many = lists::words_len(room, p, key, r) as usize;
+    let pair = Pair {
+        pairs: p,
+        key: states::key(rule.a, rule.b),
+        number: r,
+    };
+    let many = lists::words_len(room, pair) as usize;
     let mut now = Joined {
         words: w,
         touched: n,
@@ -148,7 +143,7 @@ pub fn merge_words(room: &mut [u8], w: WordSet, p: Pairs, r: usize, rule: Rule, 
     let mut i = 0;
     while i < many {
         let some = batch(many - i);
-        now = merge_some(room, now, p, r, i, some, rule);
+        now = merge_some(room, now, pair, i, some, rule);
         i += some;
     }
     now

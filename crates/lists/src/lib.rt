@@ -10,7 +10,7 @@ ghost use Rattle.pairs.specs.Pairs.{Has};
 ghost use Rattle.lists.specs.Lists.{kind_of, length_of, Loaded};
 
 use fields::{FIRST, MANY, PLACE};
-use pairs::Pairs;
+use pairs::Pair;
 
 // A list of words: so many in a place for four, or the place of a run and how many.
 #[derive(Clone, Copy)]
@@ -48,18 +48,18 @@ fn kind(n: u64, near: [u64; 4]) -> WordList
     }
 }
 
-// The state of a pair that has the record r.
-fn load(room: &[u8], p: Pairs, key: u64, r: usize) -> PairState
-    requires { Has p key r (cells room.now) }
-    ensures { Loaded p key (cells room.now) result }
+// The state of a pair that has a record.
+fn load(room: &[u8], pair: Pair) -> PairState
+    requires { Has pair.pairs pair.key pair.number (cells room.now) }
+    ensures { Loaded pair.pairs pair.key (cells room.now) result }
 {
-    let n = fields::get(room, p, r, MANY);
-    let a = fields::get(room, p, r, FIRST);
-    let b = fields::get(room, p, r, FIRST + 1);
-    let c = fields::get(room, p, r, FIRST + 2);
-    let d = fields::get(room, p, r, FIRST + 3);
-    let count = fields::count(room, p, key, r);
-    let marks = fields::marks(room, p, key, r);
+    let n = fields::get(room, pair.pairs, pair.number, MANY);
+    let a = fields::get(room, pair.pairs, pair.number, FIRST);
+    let b = fields::get(room, pair.pairs, pair.number, FIRST + 1);
+    let c = fields::get(room, pair.pairs, pair.number, FIRST + 2);
+    let d = fields::get(room, pair.pairs, pair.number, FIRST + 3);
+    let count = fields::count(room, pair);
+    let marks = fields::marks(room, pair);
     let words = kind(n, [a, b, c, d]);
     PairState {
         count,
@@ -69,24 +69,25 @@ fn load(room: &[u8], p: Pairs, key: u64, r: usize) -> PairState
 }
 
 // The j-th word of its list.
-pub fn word_at(room: &[u8], p: Pairs, key: u64, r: usize, j: usize) -> u64
-    requires { (Has p key r (cells room.now)) × (j < length (state p (cells room.now) key).words) }
-    ensures { result ≡ nth (state p (cells room.now) key).words j }
+pub fn word_at(room: &[u8], pair: Pair, j: usize) -> u64
+    requires { (Has pair.pairs pair.key pair.number (cells room.now))
+        × (j < length (state pair.pairs (cells room.now) pair.key).words) }
+    ensures { result ≡ nth (state pair.pairs (cells room.now) pair.key).words j }
 {
-    let n = fields::get(room, p, r, MANY);
+    let n = fields::get(room, pair.pairs, pair.number, MANY);
     if n <= 4 {
-        return fields::get(room, p, r, FIRST + j);
+        return fields::get(room, pair.pairs, pair.number, FIRST + j);
     }
-    let place = fields::get(room, p, r, PLACE) as usize;
-    cells::cell(room, p.words() + place + j)
+    let place = fields::get(room, pair.pairs, pair.number, PLACE) as usize;
+    cells::cell(room, pair.pairs.words() + place + j)
 }
 
 // How many words its list has.
-pub fn words_len(room: &[u8], p: Pairs, key: u64, r: usize) -> u64
-    requires { Has p key r (cells room.now) }
-    ensures { result ≡ length (state p (cells room.now) key).words }
+pub fn words_len(room: &[u8], pair: Pair) -> u64
+    requires { Has pair.pairs pair.key pair.number (cells room.now) }
+    ensures { result ≡ length (state pair.pairs (cells room.now) pair.key).words }
 {
-    let s = load(room, p, key, r);
+    let s = load(room, pair);
     let words = s.words;
     len(words)
 }

@@ -19,6 +19,14 @@ pub struct Pairs {
     pub most: usize,
 }
 
+// A pair that has a record: its key, and the number of the record, where what is known of it stands.
+#[derive(Clone, Copy)]
+pub struct Pair {
+    pub pairs: Pairs,
+    pub key: u64,
+    pub number: usize,
+}
+
 // Where the parts stand.
 impl Pairs {
     // The index.
@@ -86,7 +94,8 @@ impl Pairs {
 // A pair's record, where it has one.
 pub fn find(room: &[u8], p: Pairs, key: u64) -> Option<usize>
     requires { (Pairing p (cells room.now)) × (0 < key) }
-    ensures { MatchOption result (record_of p (cells room.now) key ≡ 0) (λ r. record_of p (cells room.now) key ≡ r + 1) }
+    ensures { MatchOption result (record_of p (cells room.now) key ≡ 0)
+        (λ r. record_of p (cells room.now) key ≡ r + 1) }
 {
     match index::get(room, p.index(), key) {
         Some(v) => Some((v - 1) as usize),

@@ -11,7 +11,7 @@ ghost use Rattle.step.specs.Step.{standing, following, reports_of};
 ghost use Rattle.reports.specs.Reports.{CanTouch, TouchDone, CanRaise, RaiseDone, CanLower, LowerDone, swapped, CanSide, SideDone, CanReport, ReportDone};
 
 use marks::Mark;
-use pairs::Pairs;
+use pairs::{Pair, Pairs};
 use step::{Rule, Step};
 
 // The marks of a pair that is touched, and has gained or not.
@@ -28,17 +28,17 @@ fn mark(was: u8, gain: bool) -> u8
 
 // Marks a pair as touched, and as gained where it has gained, and puts its record on the list of n unless it is
 // there.
-fn touch(room: &mut [u8], p: Pairs, key: u64, r: usize, n: usize, gain: bool) -> usize
-    requires { CanTouch p key r n (cells room.old) }
-    ensures { TouchDone p key r n gain (cells room.old) (cells room.new) result }
+fn touch(room: &mut [u8], pair: Pair, n: usize, gain: bool) -> usize
+    requires { CanTouch pair.pairs pair.key pair.number n (cells room.old) }
+    ensures { TouchDone pair.pairs pair.key pair.number n gain (cells room.old) (cells room.new) result }
 {
-    let was = fields::marks(room, p, key, r);
+    let was = fields::marks(room, pair);
     let is = mark(was, gain);
-    fields::set_marks(room, p, key, r, is);
+    fields::set_marks(room, pair, is);
     if marks::is_set(Mark::Touched, was) {
         return n;
     }
-    cells::put_cell(room, p.touched() + n, r as u64);
+    cells::put_cell(room, pair.pairs.touched() + n, pair.number as u64);
     n + 1
 }
 
@@ -48,11 +48,15 @@ pub fn raise(room: &mut [u8], p: Pairs, n: usize, left: u32, right: u32, f: u64,
     ensures { RaiseDone p n left right f w (cells room.old) (cells room.new) result }
 {
     let k = states::key(left, right);
-    let r = pairs::entry(room, p, k);
-    let c = fields::count(room, p, k, r);
-    fields::set_count(room, p, k, r, c + f);
-    notes::note(room, p, k, r, w as u64);
-    touch(room, p, k, r, n, true)
+    let pair = Pair {
+        pairs: p,
+        key: k,
+        number: pairs::entry(room, p, k),
+    };
+    let c = fields::count(room, pair);
+    fields::set_count(room, pair, c + f);
+    notes::note(room, pair, w as u64);
+    touch(room, pair, n, true)
 }
 
 // -1, f times. A pair that a word holds has a record.
@@ -61,10 +65,14 @@ fn lower(room: &mut [u8], p: Pairs, n: usize, left: u32, right: u32, f: u64) -> 
     ensures { LowerDone p n left right f (cells room.old) (cells room.new) result }
 {
     let k = states::key(left, right);
-    let r = pairs::find(room, p, k).unwrap();
-    let c = fields::count(room, p, k, r);
-    fields::set_count(room, p, k, r, c - f);
-    touch(room, p, k, r, n, false)
+    let pair = Pair {
+        pairs: p,
+        key: k,
+        number: pairs::find(room, p, k).unwrap(),
+    };
+    let c = fields::count(room, pair);
+    fields::set_count(room, pair, c - f);
+    touch(room, pair, n, false)
 }
 
 // One pair is gone from the word w and another has come, f times each: -1 of `old` and +1 of `new`.

@@ -9,7 +9,7 @@ ghost use Rattle.pairs.specs.View.{behind, key_in};
 ghost use Rattle.settling.specs.Settling.{CanSettle, SettleDone, cleared, CanSettleOne, OneSettled, gainer, CanWait, Waits};
 
 use marks::Mark;
-use pairs::Pairs;
+use pairs::{Pair, Pairs};
 use queue::Candidate;
 
 // Marks without touched and gained.
@@ -40,14 +40,19 @@ fn settle_one(room: &mut [u8], p: Pairs, q: usize, m: usize, j: usize) -> usize
 {
     let r = cells::cell(room, p.touched() + j) as usize;
     let key = fields::key_of(room, p, r);
-    let count = fields::count(room, p, key, r);
+    let pair = Pair {
+        pairs: p,
+        key,
+        number: r,
+    };
+    let count = fields::count(room, pair);
     if count == 0 {
         pairs::remove(room, p, key);
         return m;
     }
-    let v = fields::marks(room, p, key, r);
+    let v = fields::marks(room, pair);
     let left = clear(v);
-    fields::set_marks(room, p, key, r, left);
+    fields::set_marks(room, pair, left);
     wait(room, q, m, v, Candidate { count, key })
 }
 

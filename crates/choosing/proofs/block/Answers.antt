@@ -5,14 +5,14 @@ use Rattle.choosing.proofs.block.Goals as goal
 
 ruleset laws = (blocked-set, rules)
 
-pub unwrap-r-requires : goal.unwrap-r-requires
-unwrap-r-requires c = counts_found _ _ _ c.requires _ c.find.ensures
+pub unwrap-requires : goal.unwrap-requires
+unwrap-requires c = counts_found _ _ _ c.requires _ c.find.ensures
 
 pub marks-requires : goal.marks-requires
-marks-requires c = counts_has _ _ _ c.requires _ c.find.ensures _ c.unwrap-r.ensures
+marks-requires c = counts_has _ _ _ c.requires _ c.find.ensures _ c.unwrap.ensures
 
 pub set_marks-requires : goal.set_marks-requires
-set_marks-requires c = counts_has _ _ _ c.requires _ c.find.ensures _ c.unwrap-r.ensures
+set_marks-requires c = counts_has _ _ _ c.requires _ c.find.ensures _ c.unwrap.ensures
 
 pub returns : goal.returns
 returns c = search laws

@@ -6,4 +6,4 @@ use Rattle.joining.specs.Visiting.{Weights}
 use Rattle.joining.proofs.frequencies.Given as goal
 
 abbrev pub invariant-loop-j : goal.invariant-loop-j
-invariant-loop-j l = (length l.fs ≡ 16) × Weights l.w l.p l.key l.i l.j (cells l.room) l.fs
+invariant-loop-j l = (length l.fs ≡ 16) × Weights l.w l.pair.pairs l.pair.key l.i l.j (cells l.room) l.fs

@@ -7,10 +7,10 @@ use Rattle.joining.proofs.Visiting.{look_small, can_look, visiting_count, visiti
 use Rattle.joining.proofs.merge_some.Goals as goal
 
 pub frequencies-fs-requires : goal.frequencies-fs-requires
-frequencies-fs-requires c = can_look c.requires.midway.0 c.key-key.ensures c.requires.midway.1 c.requires.some_in_bounds.0 c.requires.some_in_bounds.1
+frequencies-fs-requires c = can_look c.requires.midway.0 c.requires.of_rule c.requires.midway.1 c.requires.some_in_bounds.0 c.requires.some_in_bounds.1
 
 pub overflow_add-i : goal.overflow_add-i
-overflow_add-i c = let l = look_small (can_look c.requires.midway.0 c.key-key.ensures c.requires.midway.1 c.requires.some_in_bounds.0 c.requires.some_in_bounds.1) in
+overflow_add-i c = let l = look_small (can_look c.requires.midway.0 c.requires.of_rule c.requires.midway.1 c.requires.some_in_bounds.0 c.requires.some_in_bounds.1) in
     let t = c.loop-j-test.true in
     search rules
 
