@@ -19,22 +19,16 @@ const LF: u8 = 10;
 // The first line has so many bytes, its LF included.
 const FIRST_LINE: usize = 14;
 
-// The left number of the i-th merge.
-#[tactic(auto, unfolding(crate::specs::Codes::left_of))]
-fn left_of(merges: &[u8], i: usize) -> u64
+// The two numbers of the i-th merge, the left one first.
+#[tactic(auto, unfolding(crate::specs::Codes::left_of, crate::specs::Codes::right_of))]
+fn pair_of(merges: &[u8], i: usize) -> (u64, u64)
     requires { i * 8 + 8 ≤ length merges.now }
-    ensures { result ≡ left_of merges.now i }
+    ensures left { result.0 ≡ left_of merges.now i }
+    ensures right { result.1 ≡ right_of merges.now i }
 {
-    numbers::load4(merges, i * 8) as u64
-}
-
-// The right number of the i-th merge.
-#[tactic(auto, unfolding(crate::specs::Codes::right_of))]
-fn right_of(merges: &[u8], i: usize) -> u64
-    requires { i * 8 + 8 ≤ length merges.now }
-    ensures { result ≡ right_of merges.now i }
-{
-    numbers::load4(merges, i * 8 + 4) as u64
+    let left = numbers::load4(merges, i * 8);
+    let right = numbers::load4(merges, i * 8 + 4);
+    (u64::from(left), u64::from(right))
 }
 
 // Tells whether the line of two spellings fits a room, with no sum that could wrap.
@@ -61,8 +55,9 @@ fn fits(pieces: &[u8], ends: &[u8], merges: &[u8], count: usize, room: usize) ->
     }
     let mut rest = room - FIRST_LINE;
     for i in 0..count {
-        let left = vocab::piece(pieces, ends, left_of(merges, i));
-        let right = vocab::piece(pieces, ends, right_of(merges, i));
+        let (l, r) = pair_of(merges, i);
+        let left = vocab::piece(pieces, ends, l);
+        let right = vocab::piece(pieces, ends, r);
         if !line_fits(left, right, rest) {
             return false;
         }
@@ -94,8 +89,9 @@ fn write_line(
     requires { (i * 8 + 8 ≤ length merges.now) × (at + length (line_of pieces.now ends.now merges.now i) ≤ length out.old) }
     ensures { Placed out.old out.new at (line_of pieces.now ends.now merges.now i) result }
 {
-    let left = vocab::piece(pieces, ends, left_of(merges, i));
-    let right = vocab::piece(pieces, ends, right_of(merges, i));
+    let (l, r) = pair_of(merges, i);
+    let left = vocab::piece(pieces, ends, l);
+    let right = vocab::piece(pieces, ends, r);
     let middle = put(out, at, left, SPACE);
     put(out, middle, right, LF)
 }
