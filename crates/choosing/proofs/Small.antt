@@ -14,8 +14,7 @@ use Rattle.pairs.specs.Pairs.{Has, Updated}
 use Rattle.pairs.specs.declared.Pairs.{Pairs}
 use Rattle.pairs.proofs.Moves.{state_none}
 use Rattle.pairs.proofs.Clients.{has_tied, counted_has}
-use Rattle.queue.specs.Heap.{Pushed}
-use Rattle.choosing.specs.Turns.{Corrected, Counts, Blocked, barred}
+use Rattle.choosing.specs.Turns.{Counts, Blocked, barred}
 
 -- THE SYMBOLS OF A PAIR
 pub left_is : (c : ℕ) → (c - 1) / 4294967296 ≡ left_of c
@@ -54,11 +53,3 @@ blocked-set p k r v w was is e f u = record {
         → Change k (record { count = (state p was k).count; marks = m; words = (state p was k).words }) (state p was) (state p is)
         → Change k (barred (state p was k)) (state p was) (state p is)
     go m z h = rw z at h
-
--- A STALE ENTRY CORRECTED
-pub corrected_gone : (q m times key : ℕ) (cs : List ℕ) → times ≡ 0 → Corrected q m times key cs cs m
-corrected_gone q m times key cs z = record { gone = λ _. (refl, refl); again = λ h. absurd (omega arith) }
-
-pub corrected_again : (q m times key : ℕ) (was is : List ℕ) → (times ≡ 0 → ⊥) → Pushed q m (record { count = times; key = key }) was is
-    → Corrected q m times key was is (m + 1)
-corrected_again q m times key was is n p = record { gone = λ z. absurd (n z); again = λ _. (p, refl) }

@@ -3,19 +3,17 @@ use mathlib.Core.Path.{◌≡◌, refl, sym, ap, ◌∙◌}
 use mathlib.Core.Bool.{true, false}
 use mathlib.Core.List.{List}
 use Rattle.std.proofs.Common.{Option, Some, None, ControlFlow, Continue, Break}
-use Prim.Native.Nat.{ℕ, ◌+◌, ◌-◌, ◌*◌, ◌<◌, ◌≤◌}
+use Prim.Native.Nat.{ℕ, ◌+◌, ◌-◌, ◌<◌, ◌≤◌}
 use native.Mathlib.Omega.{arith}
-use lib.ListN.{length}
 use Rattle.runs.proofs.Parts.{below_or_not}
 use Rattle.rule.specs.Training.{count, within, limits}
 use Rattle.lazy.proofs.Order.{differ}
 use Rattle.queue.specs.declared.Candidate.{Candidate}
-use Rattle.queue.specs.Heap.{Heap, Pushed, Popped}
+use Rattle.queue.specs.Heap.{Pushed, Popped}
 use Rattle.states.specs.State.{left_of, right_of, OfPair}
 use Rattle.pairs.specs.View.{behind, state}
 use Rattle.pairs.specs.Pairs.{Pairing}
 use Rattle.waiting.specs.Waiting.{waits}
-use Rattle.waiting.proofs.Queue.{queue-length}
 use Rattle.word.specs.Layout.{words_in}
 use Rattle.engine.specs.declared.Engine.{Engine}
 use Rattle.choosing.specs.Choosing.{CanChoose, NextDone}
@@ -44,12 +42,6 @@ module _ {g : Engine} {x : ℕ} {prefix : List ℕ} {limit : ℕ} {ps : List (Li
 
   pub head_pair : OfPair e.key
   head_pair = s.pair
-
-  pub head_heap : 0 < g.waiting → (Heap g.queue (g.waiting - 1) ds) × (g.queue + 2 * (g.waiting - 1) + 2 ≤ length ds)
-  head_heap w =
-      let f = s.waiting.queued.few in
-      let l = s.waiting.holds.long in
-      (s.waiting.holds.heap, omega (arith, queue-length s.waiting.candidates, s.engaged.room))
 
   pub head_turns : 1 ≤ g.turns
   head_turns = queued_turns s.waiting.queued

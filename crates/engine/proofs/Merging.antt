@@ -50,12 +50,6 @@ use Rattle.engine.proofs.Queues.{queued_older, queued_join, queued_room, gainer_
 abbrev touched_state : State → State
 touched_state s = record { count = s.count; marks = marking touched true s.marks; words = s.words }
 
--- THE MARK IS SET, as it is read and written
-pub touched_now : {p : Pairs} {k r m v : ℕ} {cs ds : List ℕ} → m ≡ (state p cs k).marks → v ≡ marking touched true m
-    → Updated p k r (record { count = (state p cs k).count; marks = v; words = (state p cs k).words }) cs ds
-    → Updated p k r (record { count = (state p cs k).count; marks = marking touched true (state p cs k).marks; words = (state p cs k).words }) cs ds
-touched_now e f u = rw (← e, ← f) u
-
 -- CALM STATES: settled ones without the merged pair, and those that are as they were
 removed_calm : {e : ℕ} {σ τ υ : ℕ → State} → Settled e σ τ → Change e blank τ υ → Calm υ
 removed_calm {e} s h = record {

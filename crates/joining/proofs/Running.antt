@@ -4,7 +4,7 @@ use mathlib.Core.List.{List, [], ◌∷◌, ◌++◌, map, append-nil, map-appen
 use mathlib.Core.Logic.{◌⊎◌, inl, inr, ⊎_elim}
 use mathlib.Core.Option as maybe
 use Rattle.std.specs.Prelude.{Option, Some, None}
-use Prim.Native.Nat.{ℕ, ◌+◌, ◌-◌, ◌^◌, ◌<◌, ◌≤◌}
+use Prim.Native.Nat.{ℕ, ◌+◌, ◌-◌, ◌<◌, ◌≤◌}
 use native.Mathlib.Omega.{arith}
 use lib.ListN.{length, drop}
 use lib.Seq.{append_snoc}
@@ -92,9 +92,6 @@ module _ {a b x : ℕ} {w : WordSet} {p : Pairs} {k n start long f kept at left 
   pub running_read : at + left ≤ length ds
   running_read = omega (arith, read_in, fits, same_long)
 
-  pub running_few : 0 < left → kept + 1 < 2 ^ 64
-  running_few h = omega (arith, σ.run.behind, σ.run.ends, σ.run.room, σ.run.small)
-
   -- A STEP, as it is seen below the states
   module _ (h : 0 < left) {st : Step} (g : Looked a b x previous at left ds st) where
     same_part : part at left seen ≡ part at left ds
@@ -161,12 +158,6 @@ module _ {a b x : ℕ} {w : WordSet} {p : Pairs} {k n start long f kept at left 
       -- the cells read and written lie apart: what is written never overtakes what is read
       written_in : start + kept < at + left
       written_in = omega (arith, σ.run.behind)
-
-      pub running_cell : at < length es
-      running_cell = omega (arith, running_read, kept_told.long)
-
-      pub running_place : start + kept < length es
-      running_place = omega (arith, written_in, running_read, kept_told.long)
 
       -- what the step leaves holds its symbol
       left_symbol : symbol_in (leaves st (nth seen at)) ≡ st.symbol

@@ -19,9 +19,7 @@ use Rattle.word.specs.Layout.{symbol_in}
 use Rattle.states.specs.State.{most}
 use Rattle.states.specs.Tracking.{last_of, Small}
 use Rattle.states.proofs.Gains.{hit_holds}
-use Rattle.pairs.specs.declared.Pairs.{Pairs}
-use Rattle.reports.specs.Reports.{ReportDone}
-use Rattle.joining.specs.Running.{Told, Keeps, Hits}
+use Rattle.joining.specs.Running.{Keeps, Hits}
 
 -- the first symbol, and the symbols without the first ones
 pub first_is : (l : List ℕ) (s : ℕ) (r : List ℕ) → l ≡ s ∷ r → nth l 0 ≡ s
@@ -88,11 +86,3 @@ module _ (a b x : ℕ) (ha : a < x) (hb : b < x) (hx : x < most) where
       no : (a ≡ x) ⊎ (b ≡ x) → ⊥
       no (inl e) = omega arith
       no (inr e) = omega arith
-
--- A STEP TOLD, on either way
-module _ (a b x : ℕ) (p : Pairs) (n : ℕ) (st : Step) (f k : ℕ) (cs : List ℕ) where
-  pub told-keep : (st.took ≡ 2 → ⊥) → Told a b x p n st f k cs cs n
-  told-keep h = record { hit = λ two. absurd (h two); keep = λ _. (refl, refl) }
-
-  pub told_hit : st.took ≡ 2 → (ds : List ℕ) (m : ℕ) → ReportDone p n (reports_of a b x st) f k cs ds m → Told a b x p n st f k cs ds m
-  told_hit two ds m d = record { hit = λ _. d; keep = λ h. absurd (h two) }

@@ -1,9 +1,6 @@
 -- `choosing::block` meets its contract: a pair that counts has a record.
-use borrow.Author.Rules.{rules}
-use Rattle.choosing.proofs.Small.{counts_found, counts_has, blocked-set}
+use Rattle.choosing.proofs.Small.{counts_found, counts_has}
 use Rattle.choosing.proofs.block.Goals as goal
-
-ruleset laws = (blocked-set, rules)
 
 pub unwrap-requires : goal.unwrap-requires
 unwrap-requires c = counts_found _ _ _ c.requires _ c.find.ensures
@@ -13,6 +10,3 @@ marks-requires c = counts_has _ _ _ c.requires _ c.find.ensures _ c.unwrap.ensur
 
 pub set_marks-requires : goal.set_marks-requires
 set_marks-requires c = counts_has _ _ _ c.requires _ c.find.ensures _ c.unwrap.ensures
-
-pub returns : goal.returns
-returns c = search laws
