@@ -28,11 +28,11 @@
 
 ghost use Rattle.std.specs.Prelude.{◌<◌, ◌≤◌, length};
 
+use error::TrainError;
 use std::io;
 use std::io::Print;
 use table::{Settings, Table};
 use trainer::Trained;
-use error::TrainError;
 
 const LF: u8 = 10;
 
@@ -110,15 +110,21 @@ fn tell(
     pairs: &[u8],
 ) -> io::Result<()> {
     match r {
-        Ok(Trained {
-            pieces,
-            alphabet,
-            merges,
-        }) => {
+        Ok(
+            Trained {
+                pieces,
+                alphabet,
+                merges,
+            },
+        ) => {
             print(rt, b"", pieces)?;
             print(rt, b" ", alphabet)?;
             print(rt, b" ", merges)?;
-            print(rt, b" ", u64::from(checksum(piece_bytes, ends, pairs, pieces, merges)))?;
+            print(
+                rt,
+                b" ",
+                u64::from(checksum(piece_bytes, ends, pairs, pieces, merges)),
+            )?;
         }
         Err(why) => {
             print(rt, b"refused ", why.number())?;
