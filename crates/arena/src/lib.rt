@@ -1,4 +1,5 @@
-// Records taken for a key and given back: `StateArena` of the original. One that was given back is taken before a new one.
+// Records taken for a key and given back: `StateArena` of the original. One that was given back is
+// taken before a new one.
 #![tactic(auto)]
 
 ghost use Rattle.cells.specs.Cells.{cells};

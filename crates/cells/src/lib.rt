@@ -1,5 +1,5 @@
-// A run as a room of 64-bit cells: cell i is the number of 8 bytes at i * 8. Reading or putting a cell compiles to the machine's
-// own load or store. And the way round cells that stand in a ring.
+// A run as a room of 64-bit cells: cell i is the number of 8 bytes at i * 8. Reading or putting a
+// cell compiles to the machine's own load or store. And the way round cells that stand in a ring.
 //
 // A bound is always stated as `place < number of cells`, of several cells as `place + n ≤ number of cells`.
 #![tactic(auto)]

@@ -30,10 +30,12 @@ fn stripped_length(piece: &[u8], prefix: &[u8]) -> usize
 
 // Writes a unit with its decoration, and gives the place behind it.
 pub fn decorate(run: &mut [u8], at: usize, spelling: Spelling) -> usize
-    requires { at + (length spelling.prefix.now + (length spelling.unit.now + length spelling.suffix.now)) ≤ length run.old }
+    requires { at + (length spelling.prefix.now + (length spelling.unit.now + length spelling.suffix.now))
+        ≤ length run.old }
     ensures { Written run.old run.new at
         (spelling.entry.prefix.now ++ (spelling.entry.unit.now ++ spelling.entry.suffix.now))
-        (length spelling.entry.prefix.now + (length spelling.entry.unit.now + length spelling.entry.suffix.now)) result }
+        (length spelling.entry.prefix.now + (length spelling.entry.unit.now + length spelling.entry.suffix.now))
+        result }
 {
     let Spelling {
         prefix,

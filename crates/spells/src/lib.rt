@@ -28,7 +28,8 @@ fn equal_two(a: &[u8], b: &[u8], piece: &[u8]) -> bool
 // Tells whether prefix, unit and suffix end to end are the bytes of a piece.
 #[tactic(auto, using(crate::proofs::Equal::front_found, crate::proofs::Equal::front_missing))]
 pub fn equal_three(spelling: Spelling, piece: &[u8]) -> bool
-    ensures { result ≡ same (spelling.entry.prefix.now ++ (spelling.entry.unit.now ++ spelling.entry.suffix.now)) piece.now }
+    ensures { result
+        ≡ same (spelling.entry.prefix.now ++ (spelling.entry.unit.now ++ spelling.entry.suffix.now)) piece.now }
 {
     match piece.strip_prefix(spelling.prefix) {
         Some(rest) => equal_two(spelling.unit, spelling.suffix, rest),
@@ -52,7 +53,9 @@ fn hash_on(before: u64, s: &[u8]) -> u64
 // The hash of prefix, unit and suffix end to end.
 #[tactic(auto, using(crate::proofs::Hash::hash_parts))]
 pub fn hash_three(spelling: Spelling) -> u64
-    ensures { (result ≡ hash_of (spelling.entry.prefix.now ++ (spelling.entry.unit.now ++ spelling.entry.suffix.now))) × (result < 4294967296) }
+    ensures { (result
+        ≡ hash_of (spelling.entry.prefix.now ++ (spelling.entry.unit.now ++ spelling.entry.suffix.now)))
+        × (result < 4294967296) }
 {
     let x = hash_on(2166136261, spelling.prefix);
     let y = hash_on(x, spelling.unit);
