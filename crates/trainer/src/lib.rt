@@ -157,6 +157,7 @@ fn train_rooms(
 }
 
 // Trains a vocabulary: "Any word table, setting or room gets an answer".
+// Stays: (a) the rooms are runs that C lends, a parameter each, as in `rindovesh_train`.
 pub fn train(
     t: Table,
     settings: Settings,
