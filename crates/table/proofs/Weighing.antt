@@ -16,17 +16,14 @@ use Rattle.text.specs.Units.{by_chars, Counted}
 use Rattle.text.proofs.Steps.{counted_units}
 use Rattle.vocab.specs.Places.{numbers_from}
 use Rattle.vocab.proofs.Places.{numbers_start, numbers_step, numbers_end, parts_start, parts_step, parts_end}
-use Rattle.table.specs.Weighing.{unit_count, UnitsIn, capped, Heavier, IsWeighed}
+use Rattle.table.specs.Weighing.{unit_count, capped, Heavier, IsWeighed}
 
--- THE UNITS OF A WORD, as they are counted
+-- THE UNITS OF A WORD that is lent as a part of a run, as they are counted
 
-pub units_counted : (seeding : ℕ) (d : Seeding) (word : List ℕ) (r : ℕ) → by_chars d ≡ chars seeding → Counted (by_chars d) word r → UnitsIn seeding word r
-units_counted seeding d word r e n = record { is = counted_units d seeding e word r n; few = n.few }
-
--- and of a word that is lent as a part of a run
-module _ (seeding : ℕ) (ws : List ℕ) (from to r : ℕ) (n : UnitsIn seeding (take (to - from) (drop from ws)) r) where
+module _ (seeding : ℕ) (d : Seeding) (e : by_chars d ≡ chars seeding) (ws : List ℕ) (from to r : ℕ)
+    (n : Counted (by_chars d) (take (to - from) (drop from ws)) r) where
   pub lent_units : r ≡ length (units seeding (part from (to - from) ws))
-  lent_units = n.is ∙ rw (part_lent from to ws)
+  lent_units = counted_units d seeding e (take (to - from) (drop from ws)) r n ∙ rw (part_lent from to ws)
 
   pub lent_few : r ≤ to - from
   lent_few =

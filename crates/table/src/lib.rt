@@ -12,7 +12,7 @@ ghost use Rattle.numbers.specs.Little.{numbers};
 ghost use Rattle.rule.specs.Shapes.{shaped, below};
 ghost use Rattle.rule.specs.Table.{room_for};
 ghost use Rattle.rule.specs.Refusals.{bad_shape, too_many, no_frequency, misplaced};
-ghost use Rattle.table.specs.Weighing.{UnitsIn, Heavier, IsWeighed};
+ghost use Rattle.table.specs.Weighing.{Heavier, IsWeighed};
 ghost use Rattle.table.specs.Answers.{first_place, words_answer, table_answer};
 
 use error::TrainError;
@@ -155,14 +155,6 @@ fn first_low(words: &[u8], ends: &[u8]) -> Option<usize>
     None
 }
 
-// How many units a word has.
-#[tactic(auto, using(crate::proofs::Weighing::units_counted))]
-fn units_in(word: &[u8], seeding: u64) -> u64
-    ensures { UnitsIn seeding word.now result }
-{
-    text::count_units(word, Seeding::from_number(seeding)) as u64
-}
-
 // A weight with one word more, up to the number that is too heavy.
 #[tactic(auto, using(crate::proofs::Weighing::heavier_rules))]
 fn heavier(weight: u64, frequency: u64, units: u64) -> u64
@@ -193,13 +185,14 @@ fn weigh(t: Table) -> Weighed
     ensures { IsWeighed t.entry.seeding t.entry.words.now t.entry.word_ends.now t.entry.frequencies.now
         result.weight result.units }
 {
+    let kind = Seeding::from_number(t.seeding);
     let mut last = 0;
     let mut weight = 0;
     let mut units = 0;
     for n in 0..t.word_ends.len() / 4 {
         let end = vocab::end_at(t.word_ends, n);
         let f = frequency_at(t.frequencies, n);
-        let u = units_in(&t.words[last..end], t.seeding);
+        let u = text::count_units(&t.words[last..end], kind) as u64;
         weight = heavier(weight, f, u);
         units += u;
         last = end;

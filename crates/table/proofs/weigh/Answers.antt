@@ -10,21 +10,22 @@ ruleset laws = (shaped-first, risen_up, risen_under, risen_rest, weight_start, u
 pub loop-n-init : goal.loop-n-init
 loop-n-init c = search laws
 
-pub slice_bounds-units_in-count : goal.slice_bounds-units_in-count
-slice_bounds-units_in-count c = search laws
+pub slice_bounds-count_units-count : goal.slice_bounds-count_units-count
+slice_bounds-count_units-count c = search laws
 
-pub slice_bounds-units_in-start : goal.slice_bounds-units_in-start
-slice_bounds-units_in-start c = search laws
+pub slice_bounds-count_units-start : goal.slice_bounds-count_units-start
+slice_bounds-count_units-start c = search laws
 
-pub slice_bounds-units_in-end : goal.slice_bounds-units_in-end
-slice_bounds-units_in-end c = search laws
+pub slice_bounds-count_units-end : goal.slice_bounds-count_units-end
+slice_bounds-count_units-end c = search laws
 
 pub loop-n-preserved : goal.loop-n-preserved
 loop-n-preserved c = let l = c.loop-n in
     let e = c.end_at-end in
     let f = c.frequency_at-f in
-    let n = lent_units c.args.t.seeding c.args.t.words.now l.last e.result _ c.units_in-u.ensures in
-    let few = lent_few c.args.t.seeding c.args.t.words.now l.last e.result _ c.units_in-u.ensures in
+    let k = c.from_number-kind.ensures in
+    let n = lent_units c.args.t.seeding _ k c.args.t.words.now l.last e.result _ c.count_units-u.ensures in
+    let few = lent_few c.args.t.seeding _ k c.args.t.words.now l.last e.result _ c.count_units-u.ensures in
     let up = risen_up _ _ l.n _ l.invariant.3 _ (omega arith) e.ensures in
     let under = risen_under _ _ l.n _ l.invariant.3 _ (omega arith) e.ensures in
     let h = c.heavier-weight in (
