@@ -1,6 +1,6 @@
 -- The laws of the loops over a word, and of a word lent as a part of a run. Their premises are the facts as a proof of the code has
 -- them, so that `search` finds them. Assumes nothing.
-use mathlib.Core.Path.{◌≡◌, sym, ap, ◌∙◌}
+use mathlib.Core.Path.{◌≡◌, refl, sym, ap, ◌∙◌}
 use mathlib.Core.Bool.{Bool, true, false, not, ◌&&◌}
 use mathlib.Core.List.{List, [], ◌∷◌}
 use Prim.Native.Nat.{ℕ, suc, ◌+◌, ◌-◌, ◌≤◌, ◌<◌}
@@ -15,8 +15,9 @@ use Rattle.rfc3629.proofs.Rows.{len_bounds}
 use Rattle.rfc3629.proofs.Units.{well_nil, well_bad, well_next, unit_byte, unit_none, unit_char, unit_bounds, units_nil, units_next}
 use Rattle.rfc3629.proofs.Texts.{cut_bytes, seeded_bytes, seeded-chars, seeded_few}
 use Rattle.rule.specs.Table.{chars}
-use Rattle.text.specs.Units.{setting_of, by_chars, Next, Counted}
-use Rattle.std.specs.Prelude.{Some, None}
+use Rattle.text.specs.Units.{setting_of, by_chars, chars_in, Next, Counted}
+use Rattle.std.specs.Prelude.{Option, Some, None, is_some, cond}
+use Rattle.std.specs.Option.{unwrap_or}
 use Rattle.chars.specs.Places.{rest, some_length}
 use Rattle.text.specs.declared.Seeding.{Seeding}
 use Rattle.text.specs.declared.Seeding.TheVariants.{Bytes, Chars}
@@ -71,15 +72,17 @@ singles-length w = length-map w (λ a. a ∷ [])
 
 module _ (w : List ℕ) (i n : ℕ) where
   pub count_end : well_formed w ≡ well_formed (rest i w) → n + length (units_by true (rest i w)) ≡ length (units_by true w) → length w ≤ i
-      → n ≡ length (cut w)
-  unfolding cut
+      → Some n ≡ chars_in w
+  unfolding chars_in
   count_end e c h =
       let z : length (units_by true (rest i w)) ≡ 0 = rw (rest_end i w h, units_nil true) in
-      rw (← well_end w i (well_formed w) e h) (omega arith)
+      let m : n ≡ length (units_by true w) = omega arith in
+      rw (← well_end w i (well_formed w) e h) (ap Some m)
 
 pub count-out : (w : List ℕ) (i : ℕ) → well_formed w ≡ well_formed (rest i w) → i < length w → None ≡ some_length (char_len (rest i w))
-    → length w ≡ length (cut w)
-count-out w i e h t = rw (cut_bytes w (sym (well_out w i (well_formed w) e h t))) (sym (singles-length w))
+    → None ≡ chars_in w
+unfolding chars_in
+count-out w i e h t = rw (← well_out w i (well_formed w) e h t)
 
 module _ (w : List ℕ) (i k : ℕ) (t : Some k ≡ some_length (char_len (rest i w))) where
   pub count-turn : (n m : ℕ) → n + length (units_by true (rest i w)) ≡ m → n + 1 + length (units_by true (rest (i + k) w)) ≡ m
@@ -92,24 +95,42 @@ module _ (w : List ℕ) (i k : ℕ) (t : Some k ≡ some_length (char_len (rest 
 
 -- A WORD, SEEDING BY SEEDING
 
+told : (w : List ℕ) → is_some (chars_in w) ≡ well_formed w
+unfolding chars_in
+told w = split (well_formed w)
+  where
+    split : (b : Bool) → is_some (cond b (Some (length (units_by true w))) None) ≡ b
+    split true = refl
+    split false = refl
+
+counted : (w : List ℕ) → unwrap_or (chars_in w) (length w) ≡ length (cut w)
+unfolding chars_in cut
+counted w = split (well_formed w) refl
+  where
+    split : (b : Bool) → well_formed w ≡ b → unwrap_or (chars_in w) (length w) ≡ length (cut w)
+    split true e = rw e refl
+    split false e =
+        let z : unwrap_or (cond (well_formed w) (Some (length (units_by true w))) None) (length w) ≡ length w = rw e refl in
+        z ∙ sym (singles-length w) ∙ sym (ap length (cut_bytes w e))
+
 module _ (d : Seeding) where
   pub whole_bytes : (t : Bool) → d ≡ Bytes → false ≡ (by_chars d && t)
   unfolding by_chars setting_of
   whole_bytes t e = rw e
 
-  pub whole_chars : (r t : Bool) → d ≡ Chars → r ≡ t → r ≡ (by_chars d && t)
+  pub whole_chars : (w : List ℕ) (o : Option ℕ) (r : Bool) → d ≡ Chars → o ≡ chars_in w → r ≡ is_some o → r ≡ (by_chars d && well_formed w)
   unfolding by_chars setting_of
-  whole_chars r t e h = rw e h
+  whole_chars w o r e k h = rw e (h ∙ ap is_some k ∙ told w)
 
   module _ (w : List ℕ) where
     pub count_bytes : d ≡ Bytes → Counted (by_chars d) w (length w)
     unfolding by_chars setting_of
     count_bytes e = record { is = rw (e, seeded_bytes w) (sym (singles-length w)); few = omega arith }
 
-    pub count-chars : (r : ℕ) → d ≡ Chars → r ≡ length (cut w) → Counted (by_chars d) w r
+    pub count-chars : (o : Option ℕ) (r : ℕ) → d ≡ Chars → o ≡ chars_in w → r ≡ unwrap_or o (length w) → Counted (by_chars d) w r
     unfolding by_chars setting_of
-    count-chars r e h =
-        let i : r ≡ length (seeded true w) = h ∙ rw seeded-chars in
+    count-chars o r e k h =
+        let i : r ≡ length (seeded true w) = h ∙ ap (λ (q : Option ℕ). unwrap_or q (length w)) k ∙ counted w ∙ rw seeded-chars in
         record { is = rw e i; few = omega (arith, seeded_few true w) }
 
 pub ruleset whole_rules = (whole_bytes, whole_chars)

@@ -10,7 +10,7 @@ ghost use Rattle.std.specs.Prelude.{◌≡◌, ◌&&◌, ◌+◌, ◌-◌, ◌�
 ghost use Rattle.runs.specs.Parts.{part};
 ghost use Rattle.rfc3629.specs.Cut.{well_formed, cut};
 ghost use Rattle.rule.specs.Table.{chars};
-ghost use Rattle.text.specs.Units.{by_chars, Next, Counted};
+ghost use Rattle.text.specs.Units.{by_chars, chars_in, Next, Counted};
 
 // What the units of a word are: its bytes, or the characters of a well-formed word.
 #[derive(Clone, Copy)]
@@ -33,34 +33,17 @@ impl Seeding {
     }
 }
 
-// Tells whether a word is characters from its start to its end.
-fn all_chars(word: &[u8]) -> bool
-    ensures { result ≡ well_formed word.now }
+// How many characters a word is, if it is characters from its start to its end.
+fn chars_in(word: &[u8]) -> Option<usize>
+    ensures { result ≡ chars_in word.now }
 {
     let mut i = 0;
-    while i < word.len() {
-        let Some(k) = chars::char_len(word, i) else {
-            return false;
-        };
-        i += k;
-    }
-    true
-}
-
-// How many units a word has under Chars: its characters, or its bytes if it is not well formed.
-fn count_chars(word: &[u8]) -> usize
-    ensures { result ≡ length (cut word.now) }
-{
-    let mut j = 0;
     let mut n = 0;
-    while j < word.len() {
-        let Some(k) = chars::char_len(word, j) else {
-            return word.len();
-        };
-        j += k;
+    while i < word.len() {
+        i += chars::char_len(word, i)?;
         n += 1;
     }
-    n
+    Some(n)
 }
 
 // Tells whether a word is cut into characters.
@@ -70,7 +53,7 @@ pub fn whole(word: &[u8], seeding: Seeding) -> bool
 {
     match seeding {
         Seeding::Bytes => false,
-        Seeding::Chars => all_chars(word),
+        Seeding::Chars => chars_in(word).is_some(),
     }
 }
 
@@ -80,7 +63,7 @@ pub fn count_units(word: &[u8], seeding: Seeding) -> usize
 {
     match seeding {
         Seeding::Bytes => word.len(),
-        Seeding::Chars => count_chars(word),
+        Seeding::Chars => chars_in(word).unwrap_or(word.len()),
     }
 }
 
