@@ -15,6 +15,7 @@ use spells::Spelling;
 use vocab::Filled;
 
 // Interns a spelling as it stands, and says how far the runs are filled then.
+// Stays: the rooms apart, as in intern::intern.
 pub fn intern_plain(
     room: &mut [u8],
     ring: Ring,

@@ -28,6 +28,7 @@ fn claim_new(room: &mut [u8], a: Arena, key: u64) -> usize
 }
 
 // Takes the record that was given back last.
+// Stays: a number + 1, or 0 for none, in a cell: fixed memory has no cell for a tag.
 fn claim_free(room: &mut [u8], a: Arena, key: u64) -> usize
     requires { CanFree a.base a.most key (cells room.old) }
     ensures { Claimed a.base a.most key result (cells room.old) (cells room.new) }

@@ -28,6 +28,7 @@ pub fn put_cell(room: &mut [u8], i: usize, v: u64)
 }
 
 // Sets n cells from `at` on to 0.
+// Stays: a part by place and length, as the clauses have it (`Laid`): there is no slice of cells.
 #[tactic(auto, using(crate::proofs::Cells::room_laws))]
 pub fn clear_cells(room: &mut [u8], at: usize, n: usize)
     requires { at + n ≤ length (cells room.old) }
@@ -37,6 +38,7 @@ pub fn clear_cells(room: &mut [u8], at: usize, n: usize)
 }
 
 // Copies n cells from `from` on to `at`, where the two parts may overlap.
+// Stays: places and a length, as in `clear_cells`.
 #[tactic(auto, using(crate::proofs::Cells::room_laws))]
 pub fn copy_cells(room: &mut [u8], at: usize, from: usize, n: usize)
     requires { (at + n ≤ length (cells room.old)) × (from + n ≤ length (cells room.old)) }
@@ -53,6 +55,7 @@ pub struct Ring {
 }
 
 // What a search round a ring comes to: what was looked for, the vacant slot where it would go, or neither.
+// Stays: an enum of its own: there are three outcomes, and `intern` acts on each.
 #[derive(Clone, Copy)]
 pub enum Found {
     At(usize),

@@ -95,6 +95,7 @@ fn block(room: &mut [u8], p: Pairs, key: u64)
 
 // Takes the head of the queue. The tests are in this order: stale, the minimum, the length. The run goes on with the
 // engine, or ends with an answer.
+// Stays: pieces, ends and filled apart: training writes the runs between two choices.
 fn take_head(
     room: &mut [u8],
     g: Engine,
@@ -147,6 +148,7 @@ fn take_head(
 
 // The pair that is merged next: of those whose piece is within the limit the one with the greatest count, among
 // equals the lowest, if its count is at least `least`.
+// Stays: pieces, ends and filled apart, as in `take_head`.
 pub fn next_merge(
     room: &mut [u8],
     g: Engine,

@@ -117,6 +117,7 @@ fn write_lines(
 
 // Writes the text of the first `count` merges at the start of the run, and gives how many bytes it
 // has. It is refused where there are fewer merges, or where the run has no room for the text.
+// Stays: the count beside the merges: fewer merges than asked for is a refusal (`written`).
 pub fn write_codes(
     out: &mut [u8],
     pieces: &[u8],

@@ -28,7 +28,7 @@ fn give(answer: &mut [u8], first: u64, second: u64, third: u64)
 }
 
 // Trains a vocabulary on a word table.
-// Stays: (a) a parameter for each run and each setting, as C passes them (`include/rindovesh.h`).
+// Stays: a parameter for each run and each setting, as C passes them (`include/rindovesh.h`).
 pub fn rindovesh_train(
     words: &[u8],
     word_ends: &[u8],

@@ -26,6 +26,7 @@ use vocab::Filled;
 use word::WordSet;
 
 // Interns a unit with its decoration, and adds its number to the open word, which has n symbols.
+// Stays: the rooms apart, as in intern::intern.
 fn seed_unit(
     room: &mut [u8],
     w: WordSet,
@@ -47,6 +48,7 @@ fn seed_unit(
 }
 
 // A mark where it is there, and nothing where it is not.
+// Stays: a test beside a mark, no Option: a Spelling takes the empty part where no mark is (`decorate`).
 fn side(there: bool, mark: &[u8]) -> &[u8]
     ensures { result.now ≡ cond there mark.now [] }
 {
@@ -62,6 +64,7 @@ struct Worded {
 
 // Interns the units of a word, which is cut as `whole` tells, and adds their numbers to the open
 // word, which has none yet.
+// Stays: the rooms apart, as in intern::intern.
 fn seed_word(
     room: &mut [u8],
     w: WordSet,
@@ -110,6 +113,7 @@ pub struct Encoded {
 }
 
 // Interns the units of a word, and makes it a word of the set if it has two units or more.
+// Stays: the rooms apart, as in intern::intern.
 fn seed_entry(
     room: &mut [u8],
     so_far: Encoded,

@@ -54,6 +54,7 @@ fn find(room: &[u8], ring: Ring, key: u64) -> Found
 }
 
 // What the value in the key's slot says.
+// Stays: 0 for none in a cell (`value`): a slot is fixed memory and has no cell for a tag.
 fn value_in(room: &[u8], ring: Ring, key: u64, j: usize) -> Option<u64>
     requires { AtSlot ring.base ring.cap key j (cells room.now) }
     ensures { Told (value ring.base ring.cap (cells room.now) key) result }

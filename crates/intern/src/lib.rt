@@ -134,6 +134,7 @@ fn add(
 }
 
 // Gives the spelling a number, or the one it already has.
+// Stays: the rooms apart: the words and the heap lie in the same room, written between two internings.
 pub fn intern(
     room: &mut [u8],
     ring: Ring,

@@ -11,6 +11,7 @@ ghost use Rattle.layout.specs.Layout.{FewUnits, words_at, units_at, table_at, sl
 const MOST_UNITS: usize = 1114368;
 
 // Where the words begin, behind a place for each.
+// Stays: `FewUnits` in each clause: a type with it would ask more of callers than a number does.
 pub fn words_at(units: usize) -> usize
     requires { FewUnits units }
     ensures { result ≡ words_at units }

@@ -52,6 +52,7 @@ fn find_from(run: &[u8], from: usize, byte: u8) -> usize
 }
 
 // Where the digits from `from` on end.
+// Stays: the end where there is none (`place_of`, `digits_end`): the last line may lack its LF.
 fn digits_end(run: &[u8], from: usize) -> usize
     requires { from ≤ length run.now }
     ensures { (result ≡ digits_end run.now from) × (from ≤ result) × (result ≤ length run.now) }

@@ -13,6 +13,7 @@ use fields::{FIRST, MANY, PLACE};
 use pairs::Pair;
 
 // A list of words: so many in a place for four, or the place of a run and how many.
+// Stays: a number beside four places: a record is fixed memory (docs/DECISIONS.md, 68).
 #[derive(Clone, Copy)]
 pub enum WordList {
     Short(u64, [u64; 4]),
@@ -49,6 +50,7 @@ fn kind(n: u64, near: [u64; 4]) -> WordList
 }
 
 // The state of a pair that has a record.
+// Stays: `Has` in each clause: it ties the numbers of a pair to the cells of a lent room.
 fn load(room: &[u8], pair: Pair) -> PairState
     requires { Has pair.pairs pair.key pair.number (cells room.now) }
     ensures { Loaded pair.pairs pair.key (cells room.now) result }

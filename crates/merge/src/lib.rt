@@ -34,7 +34,7 @@ fn peek(room: &[u8], at: usize, left: usize, j: usize) -> Option<u32>
 
 // The step at the front of the `left` symbols from the cell `at` on. `previous` is the symbol that
 // stands before in the rewritten word, if any.
-// Stays: the twin of symbols::look over cells. Both call step::decide; a closure to read by would be no plainer.
+// Stays: the twin of symbols::look: this reads halves of cells, that one numbers of 4 bytes; the rule is `decide`.
 pub fn look(room: &[u8], at: usize, left: usize, previous: Option<u32>, rule: Rule) -> Step
     requires { (at + left ≤ length (cells room.now)) × (0 < left) }
     ensures { Looked rule.a rule.b rule.x previous at left (cells room.now) result }
@@ -59,6 +59,7 @@ pub fn left_by(room: &[u8], at: usize, st: Step) -> u64
 
 // Rewrites a pair in the n symbols from the cell `start` on, and says how many are kept. No step
 // writes more cells than it reads, so that writing stays behind reading.
+// Stays: place and length apart: each turn moves both.
 fn rewrite_run(room: &mut [u8], start: usize, n: usize, rule: Rule) -> usize
     requires { start + n ≤ length (cells room.old) }
     ensures { Rewritten rule.a rule.b rule.x start n (cells room.old) (cells room.new) result }

@@ -36,6 +36,7 @@ fn add_short(room: &mut [u8], pair: Pair, n: usize, w: u64)
 }
 
 // Moves the n words from the cell `from` on into a new run of `size` cells, which the record has from now on.
+// Stays: place and length apart: a part of the cells that are written.
 fn move_list(room: &mut [u8], pair: Pair, from: usize, n: usize, size: usize)
     requires { CanMove pair.pairs pair.key pair.number from n size (cells room.old) }
     ensures { MovedList pair.pairs pair.number from n size (cells room.old) (cells room.new) }

@@ -18,7 +18,7 @@ pub fn compare(a: &[u8], b: &[u8]) -> Ordering
 }
 
 // Compares two parts of one run.
-// Stays: the parts are named by place and length, as its contract says by `part`; `compare` takes slices.
+// Stays: by place and length, as the clause of this public function has it (`part`).
 #[tactic(auto, using(crate::proofs::Comparing::compare_lent))]
 pub fn compare_within(run: &[u8], at: usize, m: usize, from: usize, n: usize) -> Ordering
     requires { (at + m ≤ length run.now) × (from + n ≤ length run.now) }

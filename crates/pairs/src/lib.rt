@@ -11,7 +11,7 @@ use cells::Ring;
 use records::Arena;
 
 // The index has `cap` slots from the cell `base` on; there is place for `most` records.
-// Stays: base and cap as two fields. A Ring here is no plainer: all clauses name them, and `index` gives it.
+// Stays: base and cap as two fields: where the parts lie goes by them (`arena_at`, `lists_at`, `behind`).
 #[derive(Clone, Copy)]
 pub struct Pairs {
     pub base: usize,

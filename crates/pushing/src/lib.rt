@@ -22,6 +22,7 @@ pub fn empty(starts: usize, low: usize) -> WordSet
 }
 
 // Opens a word at the top of the set.
+// Stays: `Words` in each clause, as in word::place.
 #[tactic(auto, using(crate::proofs::Pushing::opened))]
 pub fn open(room: &mut [u8], w: WordSet, frequency: u64)
     requires words { Words w (cells room.old) }

@@ -54,6 +54,7 @@ fn is_known(c: Option<Choice>, s: u32, t: u32) -> bool
 
 // The better of d and (s,t), which is skipped where it is over-long. A pair that is the best so far
 // is not counted again.
+// Stays: pieces, ends and filled apart, as in the functions that write them (output::append_piece).
 fn try_pair(
     room: &[u8],
     w: WordSet,
@@ -88,6 +89,7 @@ fn try_pair(
 }
 
 // The best of c and the pairs of word k.
+// Stays: pieces, ends and filled apart, as in `try_pair`.
 fn best_word(
     room: &[u8],
     w: WordSet,
@@ -118,6 +120,7 @@ fn best_word(
 
 // The pair that is merged next, if there is one: the greatest count of all whose piece is within the
 // limit, among equals the lowest pair.
+// Stays: `Ready` in each clause: it ties the words and the pieces to the lent runs.
 pub fn next_merge(
     room: &[u8],
     w: WordSet,

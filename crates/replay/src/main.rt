@@ -80,6 +80,7 @@ fn fold(start: u32, s: &[u8]) -> u32 {
 
 // The checksum of an answer that is at the front of the rooms: 0 where it has no pieces, or where
 // it would not fit, which no answer of training does.
+// Stays: 0 where there is none, as the lines of `stdout` have it.
 fn checksum(pieces: &[u8], ends: &[u8], merges: &[u8], count: u64, many: u64) -> u32 {
     if count == 0 {
         return 0;

@@ -43,6 +43,7 @@ fn touch(room: &mut [u8], pair: Pair, n: usize, gain: bool) -> usize
 }
 
 // +1, f times, for the pair (left,right) in the word w.
+// Stays: f and w as two numbers: `lower` takes f alone; in joining f comes from an array, w from the list.
 pub fn raise(room: &mut [u8], p: Pairs, n: usize, left: u32, right: u32, f: u64, w: usize) -> usize
     requires { CanRaise p n left right f (cells room.old) }
     ensures { RaiseDone p n left right f w (cells room.old) (cells room.new) result }

@@ -47,7 +47,7 @@ fn gather_units(
 }
 
 // How many seeds come first. Under Chars they then stand in order behind the words.
-// Stays: (c) words, ends and seeding apart. Of runs within a Table the proof does not know that they are bytes.
+// Stays: words, ends and seeding apart. Tried: of runs within a Table the proof did not know that they are bytes.
 fn count_first(room: &mut [u8], words: &[u8], word_ends: &[u8], seeding: u64, units: usize) -> usize
     requires { Counting seeding units words.now word_ends.now room.old }
     ensures counted { Counted seeding units words.now word_ends.now (cells room.new) result }
@@ -60,6 +60,7 @@ fn count_first(room: &mut [u8], words: &[u8], word_ends: &[u8], seeding: u64, un
 }
 
 // Interns the seeds that come first: the byte values, or the distinct units in byte order.
+// Stays: the rooms apart, as in intern::intern.
 fn seed_first(
     room: &mut [u8],
     ring: Ring,

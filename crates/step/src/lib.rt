@@ -22,6 +22,7 @@ pub struct Rule {
 #[derive(Clone, Copy)]
 pub struct Step {
     pub symbol: u32,
+    // Stays: `took` as a number: each loop adds it to its place and takes it from what is left.
     pub took: usize,
     pub behind: Option<u32>,
     pub ahead: Option<u32>,

@@ -37,7 +37,7 @@ fn symbol(symbols: &[u8], i: usize) -> Option<u32>
 
 // The step at the front of the symbols from i on. `previous` is the symbol that stands before in the
 // rewritten word, if any.
-// Stays: the twin of merge::look over runs. Both call step::decide; a closure to read by would be no plainer.
+// Stays: the twin of merge::look: this reads numbers of 4 bytes, that one halves of cells; the rule is `decide`.
 fn look(symbols: &[u8], i: usize, previous: Option<u32>, rule: Rule) -> Step
     requires { i < length symbols.now / 4 }
     ensures { StepAt rule.a rule.b rule.x previous (drop i (numbers 4 symbols.now)) result }

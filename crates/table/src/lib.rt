@@ -30,6 +30,7 @@ pub struct Table<'a> {
     pub alphabet_ends: &'a [u8],
     pub prefix: &'a [u8],
     pub suffix: &'a [u8],
+    // Stays: the seeding as a number, as C hands it over: every number has an answer (`bad_shape`).
     pub seeding: u64,
 }
 
@@ -172,6 +173,7 @@ fn heavier(weight: u64, frequency: u64, units: u64) -> u64
 
 // What a pass over the words finds: their weight, up to the number that is too heavy, and their
 // units.
+// Stays: the weight stops at the number that row 6 refuses (`Heavier`), the units are counted to the end.
 #[derive(Clone, Copy)]
 struct Weighed {
     weight: u64,

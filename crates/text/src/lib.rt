@@ -22,6 +22,7 @@ pub enum Seeding {
 impl Seeding {
     // The seeding of a setting: 1 is Chars. That the setting is 0 or 1 is not asked here: the table's
     // shape rules refuse any other.
+    // Stays: no TryFrom: it cannot fail, and its clause has an answer for every number (`chars`).
     #[tactic(auto, using(crate::proofs::Loops::seeding_rules))]
     pub fn from_number(number: u64) -> Seeding
         ensures { by_chars result ≡ chars number }
@@ -68,6 +69,7 @@ pub fn count_units(word: &[u8], seeding: Seeding) -> usize
 }
 
 // Where the unit at `at` ends, in a word that is cut as `whole` told of it.
+// Stays: a cursor that is told `whole`: callers ask where a unit begins and ends, an iterator tells one.
 pub fn next_unit(word: &[u8], at: usize, whole: bool) -> usize
     requires { at < length word.now }
     ensures { Next whole word.now at (length word.now) result }

@@ -45,6 +45,7 @@ fn stored_all(rt: &impl Print) -> io::Result<()> {
 }
 
 // A part of eight letters copied over another part of them.
+// Stays: places and a length, as runs::copy_within takes them.
 fn moved(rt: &impl Print, at: usize, from: usize, n: usize) -> io::Result<()>
     requires { (at + n ≤ 8) × (from + n ≤ 8) }
 {

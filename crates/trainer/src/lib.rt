@@ -25,6 +25,7 @@ pub struct Trained {
 }
 
 // Rows 9 and 10 of a seeded table, and its merges.
+// Stays: the rooms apart, as in `train`; a match, no From: NoRoom is OutputRoom here, SeedRoom below.
 fn grow(
     work: &mut [u8],
     set: WordSet,
@@ -78,6 +79,7 @@ fn wipe(run: &mut [u8])
 }
 
 // Rows 8 to 10 of a table that the first seven do not refuse, in output rooms that are 0.
+// Stays: the rooms apart, as in `train`.
 fn train_table(
     t: Table,
     settings: Settings,
@@ -126,6 +128,7 @@ fn wipe_outputs(pieces: &mut [u8], piece_ends: &mut [u8], merges: &mut [u8], sav
 }
 
 // Trains on a table that the first seven rows do not refuse, and leaves every room as it must be.
+// Stays: the rooms apart, as in `train`.
 fn train_rooms(
     t: Table,
     settings: Settings,
@@ -157,7 +160,7 @@ fn train_rooms(
 }
 
 // Trains a vocabulary: "Any word table, setting or room gets an answer".
-// Stays: (a) the rooms are runs that C lends, a parameter each, as in `rindovesh_train`.
+// Stays: the rooms are runs that C lends, a parameter each, as in `rindovesh_train`.
 pub fn train(
     t: Table,
     settings: Settings,

@@ -34,6 +34,7 @@ pub struct Applied {
 }
 
 // Makes a pair the piece with the next number, in the output rooms and in the words, as the k-th merge.
+// Stays: the rooms apart, as in `train_words`.
 #[tactic(auto, using(crate::proofs::Turning::apply_rules))]
 fn apply(
     work: &mut [u8],
@@ -77,6 +78,7 @@ pub struct Trained {
 
 // Trains up to the size that is asked for, and no pair that counts less than the minimum or makes a piece over the
 // limit; or tells that the full answer exceeds an output room. What is known of the pairs is kept at p.
+// Stays: the rooms apart, as C lends them: what is left in each is said by itself (`TrainedDone`).
 pub fn train_words(
     work: &mut [u8],
     set: WordSet,

@@ -24,6 +24,7 @@ pub struct Filled {
 }
 
 // The i-th end.
+// Stays: who goes over parts keeps the last end: a walk with a closure would say more than the loop.
 #[tactic(auto, using(crate::proofs::Places::number_load))]
 pub fn end_at(ends: &[u8], i: usize) -> usize
     requires { i < length ends.now / 4 }

@@ -18,6 +18,7 @@ pub struct WordSet {
 }
 
 // The cell of a word's first symbol, and how many symbols it has.
+// Stays: a struct beside vocab::Place: this one is of cells, that one of bytes.
 #[derive(Clone, Copy)]
 pub struct Span {
     pub start: usize,
@@ -34,6 +35,7 @@ pub fn symbol(room: &[u8], at: usize) -> u32
 }
 
 // The cell that word k begins at.
+// Stays: `Words` in each clause: it ties the numbers of a set to the cells of a lent room.
 pub fn place(room: &[u8], w: WordSet, k: usize) -> usize
     requires words { Words w (cells room.now) }
     requires k_lt_count { k < w.count }
