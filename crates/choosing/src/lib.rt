@@ -14,11 +14,11 @@ ghost use Rattle.choosing.specs.Choosing.{CanChoose, NextDone};
 ghost use Rattle.choosing.specs.Turns.{Corrected, Counts, Blocked, TurnDone};
 
 use engine::Engine;
+use lengths::Pieces;
 use marks::Mark;
 use pairs::{Pair, Pairs};
 use queue::Candidate;
 use std::ops::ControlFlow;
-use vocab::Filled;
 
 // A pair with its count, taken out of the queue of the engine.
 #[derive(Clone, Copy)]
@@ -95,22 +95,20 @@ fn block(room: &mut [u8], p: Pairs, key: u64)
 
 // Takes the head of the queue. The tests are in this order: stale, the minimum, the length. The run goes on with the
 // engine, or ends with an answer.
-// Stays: pieces, ends and filled apart: training writes the runs between two choices.
 fn take_head(
     room: &mut [u8],
     g: Engine,
-    pieces: &[u8],
-    ends: &[u8],
-    filled: Filled,
+    p: Pieces,
     prefix: &[u8],
     limit: u64,
     least: u64,
 ) -> ControlFlow<Option<Next>, Engine>
-    requires held { Held filled.count filled.used pieces.now ends.now }
-    requires can_choose { CanChoose g filled.count prefix.now limit
-        (rooms.pieces pieces.now ends.now filled.count) (cells room.old) }
+    requires held { Held p.filled.count p.filled.used p.bytes.now p.ends.now }
+    requires can_choose { CanChoose g p.filled.count prefix.now limit
+        (rooms.pieces p.bytes.now p.ends.now p.filled.count) (cells room.old) }
     requires le_least { (1 ≤ least) × (0 < g.waiting) }
-    ensures { TurnDone result g filled.count prefix.now limit least (rooms.pieces pieces.now ends.now filled.count)
+    ensures { TurnDone result g p.entry.filled.count prefix.now limit least
+        (rooms.pieces p.entry.bytes.now p.entry.ends.now p.entry.filled.count)
         (cells room.old) (cells room.new) }
 {
     let m = g.waiting - 1;
@@ -129,7 +127,7 @@ fn take_head(
     }
     let left = left_of(e.key);
     let right = right_of(e.key);
-    if lengths::is_within(pieces, ends, filled, prefix, limit, left, right) {
+    if lengths::is_within(p, prefix, limit, left, right) {
         let engine = Engine { waiting: m, ..g };
         return ControlFlow::Break(Some(Next {
             engine,
@@ -148,27 +146,25 @@ fn take_head(
 
 // The pair that is merged next: of those whose piece is within the limit the one with the greatest count, among
 // equals the lowest, if its count is at least `least`.
-// Stays: pieces, ends and filled apart, as in `take_head`.
 pub fn next_merge(
     room: &mut [u8],
     g: Engine,
-    pieces: &[u8],
-    ends: &[u8],
-    filled: Filled,
+    p: Pieces,
     prefix: &[u8],
     limit: u64,
     least: u64,
 ) -> Option<Next>
-    requires held { Held filled.count filled.used pieces.now ends.now }
-    requires can_choose { CanChoose g filled.count prefix.now limit
-        (rooms.pieces pieces.now ends.now filled.count) (cells room.old) }
+    requires held { Held p.filled.count p.filled.used p.bytes.now p.ends.now }
+    requires can_choose { CanChoose g p.filled.count prefix.now limit
+        (rooms.pieces p.bytes.now p.ends.now p.filled.count) (cells room.old) }
     requires le_least { 1 ≤ least }
-    ensures { NextDone result g filled.count prefix.now limit least (rooms.pieces pieces.now ends.now filled.count)
+    ensures { NextDone result g p.entry.filled.count prefix.now limit least
+        (rooms.pieces p.entry.bytes.now p.entry.ends.now p.entry.filled.count)
         (cells room.old) (cells room.new) }
 {
     let mut h = g;
     while 0 < h.waiting {
-        match take_head(room, h, pieces, ends, filled, prefix, limit, least) {
+        match take_head(room, h, p, prefix, limit, least) {
             ControlFlow::Continue(next) => h = next,
             ControlFlow::Break(answer) => return answer,
         }

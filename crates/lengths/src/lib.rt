@@ -12,6 +12,14 @@ ghost use Rattle.lengths.specs.Places.{Stands};
 
 use vocab::{Filled, Place};
 
+// The pieces of a vocabulary, to be read: their bytes end to end, where each ends, and how far both runs are filled.
+#[derive(Clone, Copy)]
+pub struct Pieces<'a> {
+    pub bytes: &'a [u8],
+    pub ends: &'a [u8],
+    pub filled: Filled,
+}
+
 // Where the k-th piece stands.
 pub fn place_of(ends: &[u8], k: u32) -> Place
     requires { ((k + 1) * 4 ≤ length ends.now) × (piece_start ends.now k ≤ piece_start ends.now (k + 1)) }
@@ -26,38 +34,26 @@ pub fn place_of(ends: &[u8], k: u32) -> Place
 }
 
 // How many bytes the pieces `left` and `right` have when they are joined.
-pub fn joined_bytes(
-    pieces: &[u8],
-    ends: &[u8],
-    filled: Filled,
-    left: u32,
-    right: u32,
-    prefix: &[u8],
-) -> usize
-    requires { (Held filled.count filled.used pieces.now ends.now) × (left < filled.count) × (right < filled.count) }
+pub fn joined_bytes(p: Pieces, left: u32, right: u32, prefix: &[u8]) -> usize
+    requires { (Held p.filled.count p.filled.used p.bytes.now p.ends.now)
+        × (left < p.filled.count) × (right < p.filled.count) }
     ensures { result ≡ length (joined prefix.now
-        (piece_at pieces.now ends.now left) (piece_at pieces.now ends.now right)) }
+        (piece_at p.entry.bytes.now p.entry.ends.now left) (piece_at p.entry.bytes.now p.entry.ends.now right)) }
 {
-    let before = place_of(ends, left);
-    let behind = place_of(ends, right);
-    let right_bytes = &pieces[behind.start..behind.start + behind.length];
+    let before = place_of(p.ends, left);
+    let behind = place_of(p.ends, right);
+    let right_bytes = &p.bytes[behind.start..behind.start + behind.length];
     spelling::joined_length(before.length, right_bytes, prefix)
 }
 
 // Tells whether the piece that s and t make is within the limit.
 #[tactic(auto, using(crate::proofs::Joined::within_is))]
-pub fn is_within(
-    pieces: &[u8],
-    ends: &[u8],
-    filled: Filled,
-    prefix: &[u8],
-    limit: u64,
-    s: u32,
-    t: u32,
-) -> bool
-    requires { (Held filled.count filled.used pieces.now ends.now) × (s < filled.count) × (t < filled.count) }
-    ensures { result ≡ within (limits prefix.now limit) (rooms.pieces pieces.now ends.now filled.count) s t }
+pub fn is_within(p: Pieces, prefix: &[u8], limit: u64, s: u32, t: u32) -> bool
+    requires { (Held p.filled.count p.filled.used p.bytes.now p.ends.now)
+        × (s < p.filled.count) × (t < p.filled.count) }
+    ensures { result ≡ within (limits prefix.now limit)
+        (rooms.pieces p.entry.bytes.now p.entry.ends.now p.entry.filled.count) s t }
 {
-    let long = joined_bytes(pieces, ends, filled, s, t, prefix);
+    let long = joined_bytes(p, s, t, prefix);
     long as u64 <= limit
 }

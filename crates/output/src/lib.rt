@@ -10,6 +10,7 @@ ghost use Rattle.intern.specs.Pieces.{Held};
 ghost use Rattle.output.specs.Output.{PieceDone, MergeDone};
 
 use error::NoRoom;
+use lengths::Pieces;
 use vocab::Filled;
 
 // The end of a piece has 4 bytes.
@@ -33,7 +34,12 @@ pub fn append_piece(
     if ends.len() / 4 <= filled.count {
         return Err(NoRoom);
     }
-    let n = lengths::joined_bytes(pieces, ends, filled, left, right, prefix);
+    let there = Pieces {
+        bytes: pieces,
+        ends,
+        filled,
+    };
+    let n = lengths::joined_bytes(there, left, right, prefix);
     if pieces.len() - filled.used < n {
         return Err(NoRoom);
     }

@@ -10,7 +10,7 @@ ghost use Rattle.word.specs.Layout.{corpus, entry_at, words_in};
 ghost use Rattle.rule.specs.Training.{better};
 ghost use Rattle.recount.specs.Recount.{ruled, pick, known, Ready, Weighed, Tried, Chosen};
 
-use vocab::Filled;
+use lengths::Pieces;
 use word::WordSet;
 
 // A pair and its count.
@@ -54,29 +54,26 @@ fn is_known(c: Option<Choice>, s: u32, t: u32) -> bool
 
 // The better of d and (s,t), which is skipped where it is over-long. A pair that is the best so far
 // is not counted again.
-// Stays: pieces, ends and filled apart, as in the functions that write them (output::append_piece).
 fn try_pair(
     room: &[u8],
     w: WordSet,
-    pieces: &[u8],
-    ends: &[u8],
-    filled: Filled,
+    p: Pieces,
     prefix: &[u8],
     limit: u64,
     s: u32,
     t: u32,
     d: Option<Choice>,
 ) -> Option<Choice>
-    requires ready { Ready w filled.count filled.used (cells room.now) pieces.now ends.now }
-    requires s_lt_count { (s < filled.count) × (t < filled.count) }
+    requires ready { Ready w p.filled.count p.filled.used (cells room.now) p.bytes.now p.ends.now }
+    requires s_lt_count { (s < p.filled.count) × (t < p.filled.count) }
     requires weighed { Weighed (words_in w (cells room.now)) d }
-    ensures { Tried prefix.now limit (rooms.pieces pieces.now ends.now filled.count)
+    ensures { Tried prefix.now limit (rooms.pieces p.entry.bytes.now p.entry.ends.now p.entry.filled.count)
         (corpus (cells room.now) w.starts w.count) (s ∷ t ∷ []) d result }
 {
     if is_known(d, s, t) {
         return d;
     }
-    if !lengths::is_within(pieces, ends, filled, prefix, limit, s, t) {
+    if !lengths::is_within(p, prefix, limit, s, t) {
         return d;
     }
     let times = counting::count_pair(room, w, s, t);
@@ -89,22 +86,19 @@ fn try_pair(
 }
 
 // The best of c and the pairs of word k.
-// Stays: pieces, ends and filled apart, as in `try_pair`.
 fn best_word(
     room: &[u8],
     w: WordSet,
-    pieces: &[u8],
-    ends: &[u8],
-    filled: Filled,
+    p: Pieces,
     prefix: &[u8],
     limit: u64,
     k: usize,
     c: Option<Choice>,
 ) -> Option<Choice>
-    requires ready { Ready w filled.count filled.used (cells room.now) pieces.now ends.now }
+    requires ready { Ready w p.filled.count p.filled.used (cells room.now) p.bytes.now p.ends.now }
     requires k_lt_count { k < w.count }
     requires weighed { Weighed (words_in w (cells room.now)) c }
-    ensures { Tried prefix.now limit (rooms.pieces pieces.now ends.now filled.count)
+    ensures { Tried prefix.now limit (rooms.pieces p.entry.bytes.now p.entry.ends.now p.entry.filled.count)
         (corpus (cells room.now) w.starts w.count)
         (entry_at (corpus (cells room.now) w.starts w.count) k).symbols c result }
 {
@@ -113,7 +107,7 @@ fn best_word(
     for i in 1..span.length {
         let s = word::symbol(room, span.start + i - 1);
         let t = word::symbol(room, span.start + i);
-        d = try_pair(room, w, pieces, ends, filled, prefix, limit, s, t, d);
+        d = try_pair(room, w, p, prefix, limit, s, t, d);
     }
     d
 }
@@ -121,22 +115,14 @@ fn best_word(
 // The pair that is merged next, if there is one: the greatest count of all whose piece is within the
 // limit, among equals the lowest pair.
 // Stays: `Ready` in each clause: it ties the words and the pieces to the lent runs.
-pub fn next_merge(
-    room: &[u8],
-    w: WordSet,
-    pieces: &[u8],
-    ends: &[u8],
-    filled: Filled,
-    prefix: &[u8],
-    limit: u64,
-) -> Option<Choice>
-    requires { Ready w filled.count filled.used (cells room.now) pieces.now ends.now }
-    ensures { Chosen prefix.now limit (rooms.pieces pieces.now ends.now filled.count)
+pub fn next_merge(room: &[u8], w: WordSet, p: Pieces, prefix: &[u8], limit: u64) -> Option<Choice>
+    requires { Ready w p.filled.count p.filled.used (cells room.now) p.bytes.now p.ends.now }
+    ensures { Chosen prefix.now limit (rooms.pieces p.entry.bytes.now p.entry.ends.now p.entry.filled.count)
         (corpus (cells room.now) w.starts w.count) result }
 {
     let mut d = None;
     for k in 0..w.count {
-        d = best_word(room, w, pieces, ends, filled, prefix, limit, k, d);
+        d = best_word(room, w, p, prefix, limit, k, d);
     }
     d
 }

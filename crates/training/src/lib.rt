@@ -13,6 +13,7 @@ ghost use Rattle.training.specs.Training.{ApplyDone, TrainedDone};
 use choosing::Next;
 use engine::Engine;
 use error::NoRoom;
+use lengths::Pieces;
 use pairs::Pairs;
 use step::Rule;
 use table::Settings;
@@ -104,9 +105,12 @@ pub fn train_words(
     let mut engine = engine::start(work, set, p, filled.count as u32);
     let mut now = filled;
     for k in 0..settings.vocab_size as usize - filled.count {
-        let Some(next) = choosing::next_merge(
-            work, engine, pieces, ends, now, prefix, limit, enough,
-        ) else {
+        let there = Pieces {
+            bytes: pieces,
+            ends,
+            filled: now,
+        };
+        let Some(next) = choosing::next_merge(work, engine, there, prefix, limit, enough) else {
             break;
         };
         let a = apply(work, next, pieces, ends, merges, savings, now, k, prefix)?;

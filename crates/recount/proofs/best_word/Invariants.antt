@@ -11,7 +11,7 @@ use Rattle.recount.proofs.best_word.Given as goal
 
 abbrev pub invariant-loop-i : goal.invariant-loop-i
 invariant-loop-i l = (l.i ≤ l.span.length + 1)
-    × Under l.filled.count (symbols_at (l.span.start + l.i - 1) (l.span.length + 1 - l.i) (cells l.room))
+    × Under l.p.filled.count (symbols_at (l.span.start + l.i - 1) (l.span.length + 1 - l.i) (cells l.room))
     × Weighed (words_in l.w (cells l.room)) l.d
-    × (best (told l.initial.d) (candidates_in (limits l.prefix l.limit) (rooms.pieces l.pieces l.ends l.filled.count) (words_in l.w (cells l.room)) (entry_at (words_in l.w (cells l.room)) l.fn.k).symbols)
-    ≡ best (told l.d) (candidates_in (limits l.prefix l.limit) (rooms.pieces l.pieces l.ends l.filled.count) (words_in l.w (cells l.room)) (symbols_at (l.span.start + l.i - 1) (l.span.length + 1 - l.i) (cells l.room))))
+    × (best (told l.initial.d) (candidates_in (limits l.prefix l.limit) (rooms.pieces l.p.bytes.now l.p.ends.now l.p.filled.count) (words_in l.w (cells l.room)) (entry_at (words_in l.w (cells l.room)) l.fn.k).symbols)
+    ≡ best (told l.d) (candidates_in (limits l.prefix l.limit) (rooms.pieces l.p.bytes.now l.p.ends.now l.p.filled.count) (words_in l.w (cells l.room)) (symbols_at (l.span.start + l.i - 1) (l.span.length + 1 - l.i) (cells l.room))))

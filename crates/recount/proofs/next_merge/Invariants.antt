@@ -10,5 +10,5 @@ use Rattle.recount.proofs.next_merge.Given as goal
 
 abbrev pub invariant-loop-k : goal.invariant-loop-k
 invariant-loop-k l = Weighed (words_in l.w (cells l.room)) l.d
-    × (choose (limits l.prefix l.limit) (rooms.pieces l.pieces l.ends l.filled.count) (words_in l.w (cells l.room))
-    ≡ best (told l.d) (candidates (limits l.prefix l.limit) (rooms.pieces l.pieces l.ends l.filled.count) (words_in l.w (cells l.room)) (drop l.k (words_in l.w (cells l.room)))))
+    × (choose (limits l.prefix l.limit) (rooms.pieces l.p.bytes.now l.p.ends.now l.p.filled.count) (words_in l.w (cells l.room))
+    ≡ best (told l.d) (candidates (limits l.prefix l.limit) (rooms.pieces l.p.bytes.now l.p.ends.now l.p.filled.count) (words_in l.w (cells l.room)) (drop l.k (words_in l.w (cells l.room)))))
