@@ -8,6 +8,7 @@ use Rattle.rule.specs.Shapes.{parts_by, shaped}
 use Rattle.rule.specs.Table.{Task, A, U, chars, units_of, total, room_for}
 use Rattle.rule.specs.Seeding.{intern, first_seeds, seeds, kept_with, kept}
 use Rattle.rule.specs.Layout.{piece_bytes}
+use Rattle.table.specs.declared.Table.{Table}
 use Rattle.intern.specs.Pieces.{pieces, Held}
 use Rattle.intern.specs.Intern.{Pieces}
 use Rattle.intern.specs.Many.{Ran, Exceed}
@@ -35,6 +36,10 @@ table ws es fs al ae p s seeding = record {
   min_frequency = 0;
   max_piece_length = 0;
 }
+
+-- the same of a table as it is lent
+abbrev pub lent : Table → Task
+lent t = table t.words.now t.word_ends.now t.frequencies.now t.alphabet.now t.alphabet_ends.now t.prefix.now t.suffix.now t.seeding
 
 -- THE SEEDS THAT COME FIRST are counted in a room that document 01 asks for, whatever the alphabet
 pub record Counting (seeding units : ℕ) (ws es rs : List ℕ) : Type 0 where

@@ -12,7 +12,7 @@ ghost use Rattle.rule.specs.Shapes.{parts_by};
 ghost use Rattle.rule.specs.Table.{chars, units_of};
 ghost use Rattle.rule.specs.Seeding.{first_seeds};
 ghost use Rattle.encoding.specs.Encoding.{all_decorated};
-ghost use Rattle.seeding.specs.Seeding.{table, CanSeed, SeedDone};
+ghost use Rattle.seeding.specs.Seeding.{lent, CanSeed, SeedDone};
 ghost use Rattle.seeding.specs.Seeding.{Counting, Counted, CanBegin, FirstDone, CanGoOn, RestDone};
 
 use cells::Ring;
@@ -124,11 +124,8 @@ pub fn seed(
     t: Table,
     units: usize,
 ) -> Result<Encoded, NoRoom>
-    requires { CanSeed (table t.words.now t.word_ends.now t.frequencies.now t.alphabet.now t.alphabet_ends.now
-        t.prefix.now t.suffix.now t.seeding) units room.old }
-    ensures { SeedDone result (table t.entry.words.now t.entry.word_ends.now t.entry.frequencies.now
-        t.entry.alphabet.now t.entry.alphabet_ends.now t.entry.prefix.now t.entry.suffix.now t.entry.seeding) units
-        pieces.old ends.old (cells room.new) pieces.new ends.new }
+    requires { CanSeed (lent t) units room.old }
+    ensures { SeedDone result (lent t.entry) units pieces.old ends.old (cells room.new) pieces.new ends.new }
 {
     let base = layout::table_at(units);
     let first = count_first(room, t.words, t.word_ends, t.seeding, units);

@@ -11,6 +11,8 @@ use Rattle.error.specs.Answers.{train_verdict}
 use Rattle.error.specs.declared.TrainError.{TrainError}
 use Rattle.error.specs.declared.TrainError.TheVariants as why
 use Rattle.table.specs.Answers.{later_rows}
+use Rattle.table.specs.declared.Table.{Table}
+use Rattle.table.specs.declared.Settings.{Settings}
 use Rattle.layout.specs.Layout.{units_at, cells_for}
 use Rattle.intern.specs.Pieces.{Held}
 use Rattle.word.specs.Layout.{Words, words_in}
@@ -37,6 +39,11 @@ task_of ws es fs al ae p s seeding size least limit = record {
   min_frequency = least;
   max_piece_length = limit;
 }
+
+-- the task that a table as it is lent and its settings make
+abbrev pub asked : Table → Settings → Task
+asked t s =
+    task_of t.words.now t.word_ends.now t.frequencies.now t.alphabet.now t.alphabet_ends.now t.prefix.now t.suffix.now t.seeding s.vocab_size s.min_frequency s.max_piece_length
 
 -- the rooms that training writes: the answer run is the door's
 abbrev pub rooms_of : List ℕ → List ℕ → List ℕ → List ℕ → List ℕ → Rooms

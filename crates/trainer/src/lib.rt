@@ -8,7 +8,7 @@
 ghost use Rattle.std.specs.Prelude.{◌≡◌, ◌≤◌};
 ghost use Rattle.cells.specs.Cells.{cells};
 ghost use Rattle.rule.specs.Outcome.{wiped};
-ghost use Rattle.trainer.specs.Train.{task_of, rooms_of, CanGrow, GrownDone, CanTrain, TableDone, RoomsDone, TrainDone};
+ghost use Rattle.trainer.specs.Train.{asked, rooms_of, CanGrow, GrownDone, CanTrain, TableDone, RoomsDone, TrainDone};
 
 use error::{NoRoom, TrainError};
 use pairs::Pairs;
@@ -90,12 +90,8 @@ fn train_table(
     merges: &mut [u8],
     savings: &mut [u8],
 ) -> Result<Trained, TrainError>
-    requires { CanTrain (task_of t.words.now t.word_ends.now t.frequencies.now
-        t.alphabet.now t.alphabet_ends.now t.prefix.now t.suffix.now t.seeding
-        settings.vocab_size settings.min_frequency settings.max_piece_length) units work.old }
-    ensures { TableDone result (task_of t.entry.words.now t.entry.word_ends.now t.entry.frequencies.now
-        t.entry.alphabet.now t.entry.alphabet_ends.now t.entry.prefix.now t.entry.suffix.now t.entry.seeding
-        settings.vocab_size settings.min_frequency settings.max_piece_length)
+    requires { CanTrain (asked t settings) units work.old }
+    ensures { TableDone result (asked t.entry settings)
         (rooms_of work.old pieces.old piece_ends.old merges.old savings.old)
         (rooms_of work.new pieces.new piece_ends.new merges.new savings.new) }
 {
@@ -139,12 +135,8 @@ fn train_rooms(
     merges: &mut [u8],
     savings: &mut [u8],
 ) -> Result<Trained, TrainError>
-    requires { CanTrain (task_of t.words.now t.word_ends.now t.frequencies.now
-        t.alphabet.now t.alphabet_ends.now t.prefix.now t.suffix.now t.seeding
-        settings.vocab_size settings.min_frequency settings.max_piece_length) units work.old }
-    ensures { RoomsDone result (task_of t.entry.words.now t.entry.word_ends.now t.entry.frequencies.now
-        t.entry.alphabet.now t.entry.alphabet_ends.now t.entry.prefix.now t.entry.suffix.now t.entry.seeding
-        settings.vocab_size settings.min_frequency settings.max_piece_length)
+    requires { CanTrain (asked t settings) units work.old }
+    ensures { RoomsDone result (asked t.entry settings)
         (rooms_of work.old pieces.old piece_ends.old merges.old savings.old)
         (rooms_of work.new pieces.new piece_ends.new merges.new savings.new) }
 {
@@ -170,9 +162,7 @@ pub fn train(
     merges: &mut [u8],
     savings: &mut [u8],
 ) -> Result<Trained, TrainError>
-    ensures { TrainDone result (task_of t.entry.words.now t.entry.word_ends.now t.entry.frequencies.now
-        t.entry.alphabet.now t.entry.alphabet_ends.now t.entry.prefix.now t.entry.suffix.now t.entry.seeding
-        settings.vocab_size settings.min_frequency settings.max_piece_length)
+    ensures { TrainDone result (asked t.entry settings)
         (rooms_of work.old pieces.old piece_ends.old merges.old savings.old)
         (rooms_of work.new pieces.new piece_ends.new merges.new savings.new) }
 {
