@@ -31,7 +31,6 @@ use Rattle.states.proofs.Gains.{gaining_start, gaining_same}
 use Rattle.states.proofs.Touches.{touching_merge}
 use Rattle.pairs.specs.View.{behind, record_of, state}
 use Rattle.pairs.specs.Pairs.{Pairing, Has, Removed, Updated, SamePairs}
-use Rattle.pairs.specs.declared.Pairs.{Pairs}
 use Rattle.pairs.proofs.Clients.{has_tied, counted_has, pairs_kept}
 use Rattle.reports.specs.Reports.{beyond, keys_of, Listing}
 use Rattle.reports.proofs.Listed.{keys_none}
