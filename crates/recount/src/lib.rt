@@ -54,6 +54,7 @@ fn is_known(c: Option<Choice>, s: u32, t: u32) -> bool
 
 // The better of d and (s,t), which is skipped where it is over-long. A pair that is the best so far
 // is not counted again.
+// Stays: prefix and limit beside the pieces: they are what training is asked, and those what it has made.
 fn try_pair(
     room: &[u8],
     w: WordSet,
