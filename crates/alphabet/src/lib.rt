@@ -9,130 +9,75 @@ ghost use Rattle.rule.specs.Seeding.{byte_values};
 ghost use Rattle.intern.specs.Intern.{CanIntern};
 ghost use Rattle.alphabet.specs.Seeds.{CanSeed, Seeds};
 
-use intern::Interned;
+use cells::Ring;
+use error::NoRoom;
+use spells::Spelling;
+use vocab::Filled;
 
-// How many pieces and bytes there are now; or that a seed has no place.
-#[derive(Clone, Copy)]
-pub enum Seeded {
-    Done(usize, usize),
-    NoRoom,
-}
-
-// Interns a spelling as it stands.
+// Interns a spelling as it stands, and says how far the runs are filled then.
+// Stays: the rooms apart, as in intern::intern.
 pub fn intern_plain(
     room: &mut [u8],
-    base: usize,
-    cap: usize,
+    ring: Ring,
     pieces: &mut [u8],
     ends: &mut [u8],
-    count: usize,
-    used: usize,
+    filled: Filled,
     s: &[u8],
-) -> Seeded
-    requires { CanIntern base cap count used (cells room.old) pieces.old ends.old }
-    ensures { Seeds result base cap count used (s.now ∷ [])
+) -> Result<Filled, NoRoom>
+    requires { CanIntern ring.base ring.cap filled.count filled.used (cells room.old) pieces.old ends.old }
+    ensures { Seeds result ring.base ring.cap filled.count filled.used (s.now ∷ [])
         room.old pieces.old ends.old room.new pieces.new ends.new }
 {
-    let r = intern::intern(
-        room,
-        base,
-        cap,
-        pieces,
-        ends,
-        count,
-        used,
-        &s[0..0],
-        s,
-        &s[0..0],
-    );
-    match r {
-        Interned::At(_, n, u) => Seeded::Done(n, u),
-        Interned::NoRoom => Seeded::NoRoom,
-    }
-}
-
-// Interns a spelling of one byte.
-fn intern_byte(
-    room: &mut [u8],
-    base: usize,
-    cap: usize,
-    pieces: &mut [u8],
-    ends: &mut [u8],
-    count: usize,
-    used: usize,
-    b: u8,
-) -> Seeded
-    requires { CanIntern base cap count used (cells room.old) pieces.old ends.old }
-    ensures { Seeds result base cap count used ((b ∷ []) ∷ [])
-        room.old pieces.old ends.old room.new pieces.new ends.new }
-{
-    let one = [b; 1];
-    intern_plain(room, base, cap, pieces, ends, count, used, &one)
+    let spelling = Spelling {
+        prefix: &[],
+        unit: s,
+        suffix: &[],
+    };
+    let interned = intern::intern(room, ring, pieces, ends, filled, spelling)?;
+    Ok(interned.filled)
 }
 
 // Interns the 256 byte values.
 pub fn seed_bytes(
     room: &mut [u8],
-    base: usize,
-    cap: usize,
+    ring: Ring,
     pieces: &mut [u8],
     ends: &mut [u8],
-) -> Seeded
-    requires { CanSeed base cap 0 0 (byte_values 256 0) (cells room.old) pieces.old ends.old }
-    ensures { Seeds result base cap 0 0 (byte_values 256 0)
+) -> Result<Filled, NoRoom>
+    requires { CanSeed ring.base ring.cap 0 0 (byte_values 256 0) (cells room.old) pieces.old ends.old }
+    ensures { Seeds result ring.base ring.cap 0 0 (byte_values 256 0)
         room.old pieces.old ends.old room.new pieces.new ends.new }
 {
-    let mut n = 0;
-    let mut u = 0;
-    let mut b: usize = 0;
-    while b < 256 {
-        let r = intern_byte(room, base, cap, pieces, ends, n, u, b as u8);
-        match r {
-            Seeded::Done(m, v) => {
-                n = m;
-                u = v;
-                b += 1;
-            }
-            Seeded::NoRoom => return Seeded::NoRoom,
-        }
+    let mut filled = Filled { count: 0, used: 0 };
+    for b in 0..=255u8 {
+        filled = intern_plain(room, ring, pieces, ends, filled, &[b])?;
     }
-    Seeded::Done(n, u)
+    Ok(filled)
 }
 
 // Interns the initial alphabet, in given order.
 pub fn seed_alphabet(
     room: &mut [u8],
-    base: usize,
-    cap: usize,
+    ring: Ring,
     pieces: &mut [u8],
     ends: &mut [u8],
-    count: usize,
-    used: usize,
+    filled: Filled,
     alphabet: &[u8],
     alphabet_ends: &[u8],
-) -> Seeded
-    requires can_seed { CanSeed base cap count used (parts_by alphabet.now alphabet_ends.now) (cells room.old) pieces.old ends.old }
+) -> Result<Filled, NoRoom>
+    requires can_seed { CanSeed ring.base ring.cap filled.count filled.used
+        (parts_by alphabet.now alphabet_ends.now) (cells room.old) pieces.old ends.old }
     requires alphabet_ends_value { shaped alphabet.now alphabet_ends.now ≡ true }
-    ensures { Seeds result base cap count used (parts_by alphabet.now alphabet_ends.now)
+    ensures { Seeds result ring.base ring.cap filled.count filled.used (parts_by alphabet.now alphabet_ends.now)
         room.old pieces.old ends.old room.new pieces.new ends.new }
 {
     let many = alphabet_ends.len() / 4;
-    let mut n = count;
-    let mut u = used;
+    let mut so_far = filled;
     let mut last = 0;
-    let mut k = 0;
-    while k < many {
+    for k in 0..many {
         let end = vocab::end_at(alphabet_ends, k);
-        let r = intern_plain(room, base, cap, pieces, ends, n, u, &alphabet[last..end]);
-        match r {
-            Seeded::Done(m, v) => {
-                n = m;
-                u = v;
-                last = end;
-                k += 1;
-            }
-            Seeded::NoRoom => return Seeded::NoRoom,
-        }
+        so_far = intern_plain(room, ring, pieces, ends, so_far, &alphabet[last..end])?;
+        last = end;
     }
-    Seeded::Done(n, u)
+    Ok(so_far)
 }

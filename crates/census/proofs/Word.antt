@@ -52,7 +52,7 @@ raise-most p c f k ds es h d z =
 
 -- THE START
 module _ (w : WordSet) (p : Pairs) (k n : ℕ) (cs : List ℕ) (can : CanCountWord w p k n cs) (r : Span) (found : Found w k cs r) (f : ℕ) (ef : f ≡ (word_of w k cs).frequency) where
-  pub raise_start : Raising p k n f r.start r.length cs cs r.start r.length n
+  raise_start : Raising p k n f r.start r.length cs cs r.start r.length n
   raise_start =
       record {
         ok = can.ok;
@@ -78,8 +78,14 @@ module _ (w : WordSet) (p : Pairs) (k n : ℕ) (cs : List ℕ) (can : CanCountWo
           ap (λ (l : List ℕ). length l) (word_symbols w cs can.words k can.low)
           ∙ symbols_length (nth cs (w.starts + k) + 2) (nth cs (nth cs (w.starts + k) + 1)) cs (word_inside w cs can.words k can.low)
 
+  pub symbol_start : Raising p k n f r.start r.length cs cs (r.start + 1 - 1) (r.length + 1 - 1) n
+  symbol_start =
+      let x : r.start + 1 - 1 ≡ r.start = omega arith in
+      let y : r.length + 1 - 1 ≡ r.length = omega arith in
+      rw (x, y) raise_start
+
   -- THE END, where no two symbols are left
-  pub raise_end : (ds : List ℕ) (i left m : ℕ) → Raising p k n f r.start r.length cs ds i left m → left ≤ 1 → WordCounted w p k n cs ds m
+  raise_end : (ds : List ℕ) (i left m : ℕ) → Raising p k n f r.start r.length cs ds i left m → left ≤ 1 → WordCounted w p k n cs ds m
   raise_end ds i left m inv h =
       record {
         ok = inv.ok;
@@ -92,6 +98,9 @@ module _ (w : WordSet) (p : Pairs) (k n : ℕ) (cs : List ℕ) (can : CanCountWo
     where
       none : mores (symbols_at i left cs) ≡ []
       none = mores-short (symbols_at i left cs) (omega (arith, symbols_length i left cs (omega (arith, inv.inside, inv.room, inv.kept.long))))
+
+  pub symbol_end : (ds : List ℕ) (i m : ℕ) → Raising p k n f r.start r.length cs ds (r.start + i - 1) (r.length + 1 - i) m → r.length ≤ i → WordCounted w p k n cs ds m
+  symbol_end ds i m inv h = raise_end ds (r.start + i - 1) (r.length + 1 - i) m inv (omega arith)
 
 -- A TURN
 module _ (p : Pairs) (k n f start all : ℕ) (cs ds : List ℕ) (i left m : ℕ) (inv : Raising p k n f start all cs ds i left m) where
@@ -146,3 +155,21 @@ module _ (p : Pairs) (k n f start all : ℕ) (cs ds : List ℕ) (i left m : ℕ)
       where
         reports : mores (symbols_at i left cs) ≡ (more s t ∷ []) ++ mores (symbols_at (i + 1) (left - 1) cs)
         reports = rw (first, second) (mores_two i left cs h (omega (arith, inv.inside, inv.room, inv.kept.long)))
+
+-- A TURN at the i-th of the symbols from the cell `start` on, which is reported with the one before it
+module _ (p : Pairs) (k n f start all : ℕ) (cs ds : List ℕ) (i m : ℕ) (inv : Raising p k n f start all cs ds (start + i - 1) (all + 1 - i) m) where
+  pub symbol_inside : 1 ≤ i → i < all → (start + i < length ds) × (length ds < 2 ^ 61)
+  symbol_inside low h = let z = raise_inside p k n f start all cs ds (start + i - 1) (all + 1 - i) m inv in (omega arith, z.1)
+
+  module _ (low : 1 ≤ i) (h : i < all) (s t : ℕ) (es : s ≡ symbol_in (nth ds (start + i - 1))) (et : t ≡ symbol_in (nth ds (start + i))) where
+    here : t ≡ symbol_in (nth ds (start + i - 1 + 1))
+    here = let z : start + i - 1 + 1 ≡ start + i = omega arith in rw z et
+
+    pub symbol_can : CanRaise p m s t f ds
+    symbol_can = raise_can p k n f start all cs ds (start + i - 1) (all + 1 - i) m inv (omega arith) s t es here
+
+    pub symbol_turn : (gs : List ℕ) (m' : ℕ) → RaiseDone p m s t f k ds gs m' → Raising p k n f start all cs gs (start + (i + 1) - 1) (all + 1 - (i + 1)) m'
+    symbol_turn gs m' r =
+        let x : start + (i + 1) - 1 ≡ start + i - 1 + 1 = omega arith in
+        let y : all + 1 - (i + 1) ≡ all + 1 - i - 1 = omega arith in
+        rw (x, y) (raise-turn p k n f start all cs ds (start + i - 1) (all + 1 - i) m inv (omega arith) s t es here gs m' r)

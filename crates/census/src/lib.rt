@@ -15,15 +15,11 @@ fn count_word(room: &mut [u8], w: WordSet, p: Pairs, k: usize, n: usize) -> usiz
 {
     let at = word::word(room, w, k);
     let f = word::frequency(room, w, k);
-    let mut i = at.start;
-    let mut left = at.length;
     let mut m = n;
-    while 1 < left {
-        let s = word::symbol(room, i);
-        let t = word::symbol(room, i + 1);
+    for i in 1..at.length {
+        let s = word::symbol(room, at.start + i - 1);
+        let t = word::symbol(room, at.start + i);
         m = reports::raise(room, p, m, s, t, f, k);
-        i += 1;
-        left -= 1;
     }
     m
 }
@@ -34,10 +30,8 @@ pub fn count_pairs(room: &mut [u8], w: WordSet, p: Pairs) -> usize
     ensures { CountDone w p (cells room.old) (cells room.new) result }
 {
     let mut n = 0;
-    let mut k = 0;
-    while k < w.count {
+    for k in 0..w.count {
         n = count_word(room, w, p, k, n);
-        k += 1;
     }
     n
 }

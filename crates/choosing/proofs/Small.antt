@@ -2,17 +2,19 @@
 use mathlib.Core.Path.{◌≡◌, refl, sym, ap, ◌∙◌}
 use mathlib.Core.Bool.{true}
 use mathlib.Core.List.{List}
-use Prim.Native.Nat.{ℕ, ◌+◌, ◌-◌, ◌/◌, ◌%◌, ◌<◌}
+use Prim.Native.Nat.{ℕ, ◌+◌, ◌-◌, ◌/◌, ◌%◌}
 use native.Mathlib.Omega.{arith}
+use Rattle.std.specs.Prelude.{Option, Some, MatchOption, IsSome}
+use Rattle.std.proofs.lemmas.Bool.{some_since}
+use Rattle.std.proofs.lemmas.Option.{MatchOption-at_some}
 use Rattle.marks.specs.Marks.{blocked, marking}
 use Rattle.states.specs.State.{State, left_of, right_of, Change}
 use Rattle.pairs.specs.View.{record_of, state}
-use Rattle.pairs.specs.Pairs.{Pairing, Has, Updated}
+use Rattle.pairs.specs.Pairs.{Has, Updated}
 use Rattle.pairs.specs.declared.Pairs.{Pairs}
 use Rattle.pairs.proofs.Moves.{state_none}
 use Rattle.pairs.proofs.Clients.{has_tied, counted_has}
-use Rattle.queue.specs.Heap.{Pushed}
-use Rattle.choosing.specs.Turns.{Corrected, Counts, Blocked, barred}
+use Rattle.choosing.specs.Turns.{Counts, Blocked, barred}
 
 -- THE SYMBOLS OF A PAIR
 pub left_is : (c : ℕ) → (c - 1) / 4294967296 ≡ left_of c
@@ -24,17 +26,17 @@ unfolding right_of
 right_is c = refl
 
 -- THE RECORD OF A PAIR, where it has one
-pub uncounted : (p : Pairs) (k v : ℕ) (cs : List ℕ) → v ≡ record_of p cs k → v ≡ 0 → 0 ≡ (state p cs k).count
-uncounted p k v cs e z = ap (λ (s : State). s.count) (sym (state_none p cs k (sym e ∙ z)))
+pub uncounted : (p : Pairs) (k : ℕ) (cs : List ℕ) → record_of p cs k ≡ 0 → 0 ≡ (state p cs k).count
+uncounted p k cs z = ap (λ (s : State). s.count) (sym (state_none p cs k z))
 
-pub found_has : (p : Pairs) (k v : ℕ) (cs : List ℕ) → Pairing p cs → 0 < k → v ≡ record_of p cs k → (v ≡ 0 → ⊥) → Has p k (v - 1) cs
-found_has p k v cs ok pos e h = has_tied ok pos (let r : v ≡ v - 1 + 1 = omega arith in sym e ∙ r)
+module _ (p : Pairs) (k : ℕ) (cs : List ℕ) (c : Counts p k cs) (o : Option ℕ) (f : MatchOption o (record_of p cs k ≡ 0) (λ r. record_of p cs k ≡ r + 1)) where
+  pub counts_found : IsSome o
+  counts_found =
+      some_since o (record_of p cs k ≡ 0) (λ r. record_of p cs k ≡ r + 1) f
+      (λ z. absurd (omega (arith, z, counted_has c.ok c.pos c.some)))
 
-pub counts_found : (p : Pairs) (k v : ℕ) (cs : List ℕ) → Counts p k cs → v ≡ record_of p cs k → 0 < v
-counts_found p k v cs c e = rw e (counted_has c.ok c.pos c.some)
-
-pub counts_has : (p : Pairs) (k v : ℕ) (cs : List ℕ) → Counts p k cs → v ≡ record_of p cs k → Has p k (v - 1) cs
-counts_has p k v cs c e = found_has p k v cs c.ok c.pos e (λ z. omega (arith, counts_found p k v cs c e, z))
+  pub counts_has : (r : ℕ) → o ≡ Some r → Has p k r cs
+  counts_has r i = has_tied c.ok c.pos (MatchOption-at_some (record_of p cs k ≡ 0) (λ r. record_of p cs k ≡ r + 1) r i f)
 
 -- A PAIR BLOCKED
 pub blocked-set : (p : Pairs) (k r v w : ℕ) (was is : List ℕ) → v ≡ (state p was k).marks → w ≡ marking blocked true v
@@ -51,11 +53,3 @@ blocked-set p k r v w was is e f u = record {
         → Change k (record { count = (state p was k).count; marks = m; words = (state p was k).words }) (state p was) (state p is)
         → Change k (barred (state p was k)) (state p was) (state p is)
     go m z h = rw z at h
-
--- A STALE ENTRY CORRECTED
-pub corrected_gone : (q m times key : ℕ) (cs : List ℕ) → times ≡ 0 → Corrected q m times key cs cs m
-corrected_gone q m times key cs z = record { gone = λ _. (refl, refl); again = λ h. absurd (omega arith) }
-
-pub corrected_again : (q m times key : ℕ) (was is : List ℕ) → (times ≡ 0 → ⊥) → Pushed q m (record { count = times; key = key }) was is
-    → Corrected q m times key was is (m + 1)
-corrected_again q m times key was is n p = record { gone = λ z. absurd (n z); again = λ _. (p, refl) }

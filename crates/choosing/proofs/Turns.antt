@@ -2,27 +2,23 @@
 use mathlib.Core.Path.{◌≡◌, refl, sym, ap, ◌∙◌}
 use mathlib.Core.Bool.{true, false}
 use mathlib.Core.List.{List}
-use Prim.Native.Nat.{ℕ, ◌+◌, ◌-◌, ◌*◌, ◌<◌, ◌≤◌}
+use Rattle.std.proofs.Common.{Option, Some, None, ControlFlow, Continue, Break}
+use Prim.Native.Nat.{ℕ, ◌+◌, ◌-◌, ◌<◌, ◌≤◌}
 use native.Mathlib.Omega.{arith}
-use lib.ListN.{length}
 use Rattle.runs.proofs.Parts.{below_or_not}
 use Rattle.rule.specs.Training.{count, within, limits}
 use Rattle.lazy.proofs.Order.{differ}
 use Rattle.queue.specs.declared.Candidate.{Candidate}
-use Rattle.queue.specs.Heap.{Heap, Pushed, Popped}
+use Rattle.queue.specs.Heap.{Pushed, Popped}
 use Rattle.states.specs.State.{left_of, right_of, OfPair}
 use Rattle.pairs.specs.View.{behind, state}
 use Rattle.pairs.specs.Pairs.{Pairing}
 use Rattle.waiting.specs.Waiting.{waits}
-use Rattle.waiting.proofs.Queue.{queue-length}
 use Rattle.word.specs.Layout.{words_in}
 use Rattle.engine.specs.declared.Engine.{Engine}
 use Rattle.choosing.specs.Choosing.{CanChoose, NextDone}
 use Rattle.choosing.specs.Turns.{renewed, Corrected, Counts, Blocked, Headed, Going, TurnDone, Run}
 use Rattle.choosing.specs.declared.Next.{Next}
-use Rattle.choosing.specs.declared.Next.TheVariants.{Pair, Nothing}
-use Rattle.choosing.specs.declared.Turn.{Turn}
-use Rattle.choosing.specs.declared.Turn.TheVariants.{On, Answer}
 use Rattle.states.proofs.Keys.{pair_pos}
 use Rattle.choosing.proofs.Frames.{live_exact, view_behind, engaged_behind, view_blocked, engaged_blocked}
 use Rattle.choosing.proofs.Queues.{queued_turns, queued_known, queued_low, queued_chosen, waiting_popped, waiting_pair, waiting_kept, waiting_drop, waiting_again, waiting_none}
@@ -47,12 +43,6 @@ module _ {g : Engine} {x : ℕ} {prefix : List ℕ} {limit : ℕ} {ps : List (Li
   pub head_pair : OfPair e.key
   head_pair = s.pair
 
-  pub head_heap : 0 < g.waiting → (Heap g.queue (g.waiting - 1) ds) × (g.queue + 2 * (g.waiting - 1) + 2 ≤ length ds)
-  head_heap w =
-      let f = s.waiting.queued.few in
-      let l = s.waiting.holds.long in
-      (s.waiting.holds.heap, omega (arith, queue-length s.waiting.candidates, s.engaged.room))
-
   pub head_turns : 1 ≤ g.turns
   head_turns = queued_turns s.waiting.queued
 
@@ -73,7 +63,7 @@ module _ {g : Engine} {x : ℕ} {prefix : List ℕ} {limit : ℕ} {ps : List (Li
   module _ (v : ℕ) (i : v ≡ (state g.pairs ds e.key).count) where
     -- STALE: corrected
     pub turn-stale : (least : ℕ) {n : ℕ} {fs : List ℕ} {h : Engine} → (v ≡ e.count → ⊥) → Corrected g.queue (g.waiting - 1) v e.key ds fs n
-        → h ≡ renewed g n (g.turns - 1) → TurnDone (On h) g x prefix limit least ps cs fs
+        → h ≡ renewed g n (g.turns - 1) → TurnDone (Continue h) g x prefix limit least ps cs fs
     unfolding TurnDone waits
     turn-stale least {n} {fs} {h} ne k r =
         rw r (below_or_not 0 v (λ l. again (k.again l).0 (k.again l).1) (λ l. let z = k.gone (omega arith) in rw (z.0, z.1) (gone (omega arith))))
@@ -109,14 +99,14 @@ module _ {g : Engine} {x : ℕ} {prefix : List ℕ} {limit : ℕ} {ps : List (Li
 
     module _ (fresh : v ≡ e.count) where
       -- BELOW THE MINIMUM: no pair may be merged
-      pub turn_low : (least : ℕ) → v < least → TurnDone (Answer Nothing) g x prefix limit least ps cs ds
+      pub turn_low : (least : ℕ) → v < least → TurnDone (Break None) g x prefix limit least ps cs ds
       unfolding TurnDone NextDone waits
       turn_low least l t = queued_low s.waiting.queued least (rw fresh at l) t
 
       module _ (least : ℕ) (enough : least ≤ v) (a b : ℕ) (ea : a ≡ left_of e.key) (eb : b ≡ right_of e.key) where
         -- WITHIN THE LIMIT: the pair of demand 3
         pub turn-pair : {h : Engine} → true ≡ within (limits prefix limit) ps a b → h ≡ renewed g (g.waiting - 1) g.turns
-            → TurnDone (Answer (Pair h a b v)) g x prefix limit least ps cs ds
+            → TurnDone (Break (Some (record { engine = h; left = a; right = b; count = v }))) g x prefix limit least ps cs ds
         unfolding TurnDone NextDone waits
         turn-pair {h} f r = rw r (record {
           engaged = s.engaged;
@@ -135,7 +125,7 @@ module _ {g : Engine} {x : ℕ} {prefix : List ℕ} {limit : ℕ} {ps : List (Li
 
         -- OVER-LONG: skipped for good
         pub turn_long : {h : Engine} {fs : List ℕ} → false ≡ within (limits prefix limit) ps a b → Blocked g.pairs e.key ds fs
-            → h ≡ renewed g (g.waiting - 1) (g.turns - 1) → TurnDone (On h) g x prefix limit least ps cs fs
+            → h ≡ renewed g (g.waiting - 1) (g.turns - 1) → TurnDone (Continue h) g x prefix limit least ps cs fs
         unfolding TurnDone waits
         turn_long {h} {fs} f k r = rw r (record {
           can = record {
@@ -160,20 +150,20 @@ module _ {g : Engine} {x : ℕ} {prefix : List ℕ} {limit : ℕ} {ps : List (Li
     pub run_can : CanChoose h x prefix limit ps ds
     run_can = r.can
 
-    pub run_on : (least : ℕ) (fs : List ℕ) (t : Turn) {k : Engine} → t ≡ On k → TurnDone t h x prefix limit least ps ds fs → Run g x prefix limit ps cs k fs
+    pub run_on : (least : ℕ) (fs : List ℕ) (t : ControlFlow (Option Next) Engine) {k : Engine} → t ≡ Continue k → TurnDone t h x prefix limit least ps ds fs → Run g x prefix limit ps cs k fs
     unfolding TurnDone
     run_on least fs t {k} e d = go (rw e at d)
       where
-        go : TurnDone (On k) h x prefix limit least ps ds fs → Run g x prefix limit ps cs k fs
+        go : TurnDone (Continue k) h x prefix limit least ps ds fs → Run g x prefix limit ps cs k fs
         go w = record { can = w.can; view = w.view ∙ r.view; long = w.long ∙ r.long }
 
-    answered : (least : ℕ) (fs : List ℕ) (n : Next) → NextDone n h x prefix limit least ps ds fs → NextDone n g x prefix limit least ps cs fs
+    answered : (least : ℕ) (fs : List ℕ) (n : Option Next) → NextDone n h x prefix limit least ps ds fs → NextDone n g x prefix limit least ps cs fs
     unfolding NextDone
-    answered least fs (Pair k a b v) p = record {
+    answered least fs (Some k) p = record {
       engaged = p.engaged;
       view = p.view ∙ r.view;
       long = p.long ∙ r.long;
-      times_is = p.times_is ∙ ap (count a b) r.view;
+      times_is = p.times_is ∙ ap (count k.left k.right) r.view;
       enough = p.enough;
       left = p.left;
       right = p.right;
@@ -183,19 +173,19 @@ module _ {g : Engine} {x : ℕ} {prefix : List ℕ} {limit : ℕ} {ps : List (Li
       right_is = p.right_is;
       waiting = rw (← r.view) p.waiting;
     }
-    answered least fs Nothing p = rw (← r.view) p
+    answered least fs None p = rw (← r.view) p
 
-    pub run_answer : (least : ℕ) (fs : List ℕ) (t : Turn) (n : Next) → t ≡ Answer n → TurnDone t h x prefix limit least ps ds fs
+    pub run_answer : (least : ℕ) (fs : List ℕ) (t : ControlFlow (Option Next) Engine) (n : Option Next) → t ≡ Break n → TurnDone t h x prefix limit least ps ds fs
         → NextDone n g x prefix limit least ps cs fs
     unfolding TurnDone
     run_answer least fs t n e d = answered least fs n (rw e at d)
 
-    pub run_none : (least : ℕ) → h.waiting ≤ 0 → NextDone Nothing g x prefix limit least ps cs ds
+    pub run_none : (least : ℕ) → h.waiting ≤ 0 → NextDone None g x prefix limit least ps cs ds
     unfolding NextDone
     run_none least z t l m = rw (← r.view) (waiting_none z r.can.waiting t l)
 
 -- a turn less
-pub turn-less : (g : Engine) (x : ℕ) (prefix : List ℕ) (limit least : ℕ) (ps : List (List ℕ)) (cs ds : List ℕ) (t : Turn) (h : Engine) → t ≡ On h
+pub turn-less : (g : Engine) (x : ℕ) (prefix : List ℕ) (limit least : ℕ) (ps : List (List ℕ)) (cs ds : List ℕ) (t : ControlFlow (Option Next) Engine) (h : Engine) → t ≡ Continue h
     → TurnDone t g x prefix limit least ps cs ds
     → h.turns < g.turns
 unfolding TurnDone

@@ -1,5 +1,5 @@
 -- The next merge by the queue: entries are taken until one tells the truth, counts enough and is within the limit; or there is none.
-use Rattle.std.specs.Prelude.{◌≡◌, List, [], ◌∷◌, ℕ, ◌<◌, ◌≤◌, max, length}
+use Rattle.std.specs.Prelude.{◌≡◌, Option, Some, None, List, [], ◌∷◌, ℕ, ◌<◌, ◌≤◌, max, length}
 use Rattle.rule.specs.Table.{Task}
 use Rattle.rule.specs.Training.{Choice, count}
 use Rattle.rule.specs.Demand.{Open, Chosen}
@@ -7,7 +7,6 @@ use Rattle.engine.specs.Engine.{Engaged, Limits, Waiting}
 use Rattle.word.specs.Layout.{words_in}
 use Rattle.engine.specs.declared.Engine.{Engine}
 use Rattle.choosing.specs.declared.Next.{Next}
-use Rattle.choosing.specs.declared.Next.TheVariants.{Pair, Nothing}
 
 -- what is asked: the states track the words, and the queue waits
 pub record CanChoose (g : Engine) (x : ℕ) (prefix : List ℕ) (limit : ℕ) (ps : List (List ℕ)) (cs : List ℕ) : Type 0 where
@@ -31,7 +30,7 @@ pub record Picked (g : Engine) (x : ℕ) (prefix : List ℕ) (limit least : ℕ)
   pub waiting : Waiting h.queue h.waiting h.turns h.pairs.most prefix limit ps (words_in g.words cs) (entry ∷ []) ds
 
 -- WHAT IS TOLD: the pair that demand 3 names, or that none may be merged
-unfoldable pub NextDone : Next → Engine → ℕ → List ℕ → ℕ → ℕ → List (List ℕ) → List ℕ → List ℕ → Type 0
-NextDone (Pair h a b times) g x prefix limit least ps cs ds = Picked g x prefix limit least ps cs ds h a b times
-NextDone Nothing g x prefix limit least ps cs ds =
+unfoldable pub NextDone : Option Next → Engine → ℕ → List ℕ → ℕ → ℕ → List (List ℕ) → List ℕ → List ℕ → Type 0
+NextDone (Some n) g x prefix limit least ps cs ds = Picked g x prefix limit least ps cs ds n.engine n.left n.right n.count
+NextDone None g x prefix limit least ps cs ds =
     (t : Task) → Limits t prefix limit → max 1 t.min_frequency ≡ least → (a b : ℕ) → Open t ps (words_in g.words cs) a b → ⊥

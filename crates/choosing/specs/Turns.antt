@@ -1,5 +1,7 @@
 -- One turn: the head of the queue is taken, and asked whether it is stale, counts enough, and is within the limit.
-use Rattle.std.specs.Prelude.{◌≡◌, true, List, [], ◌∷◌, ℕ, ◌+◌, ◌-◌, ◌<◌, ◌≤◌, length}
+use Rattle.std.specs.Prelude.{◌≡◌, Option, true, List, [], ◌∷◌, ℕ, ◌+◌, ◌-◌, ◌<◌, ◌≤◌, length}
+use Rattle.std.specs.declared.ops.ControlFlow.{ControlFlow}
+use Rattle.std.specs.declared.ops.ControlFlow.TheVariants.{Continue, Break}
 use Rattle.runs.specs.Parts.{Kept}
 use Rattle.queue.specs.declared.Candidate.{Candidate}
 use Rattle.queue.specs.Heap.{Pushed}
@@ -13,8 +15,7 @@ use Rattle.engine.specs.Engine.{Engaged, Waiting}
 use Rattle.word.specs.Layout.{words_in}
 use Rattle.engine.specs.declared.Engine.{Engine}
 use Rattle.choosing.specs.Choosing.{CanChoose, NextDone}
-use Rattle.choosing.specs.declared.Turn.{Turn}
-use Rattle.choosing.specs.declared.Turn.TheVariants.{On, Answer}
+use Rattle.choosing.specs.declared.Next.{Next}
 
 -- the engine with other numbers of candidates and turns
 abbrev pub renewed : Engine → ℕ → ℕ → Engine
@@ -58,9 +59,9 @@ pub record Going (g : Engine) (x : ℕ) (prefix : List ℕ) (limit : ℕ) (ps : 
   pub less : h.turns < g.turns
 
 -- WHAT A TURN TELLS
-unfoldable pub TurnDone : Turn → Engine → ℕ → List ℕ → ℕ → ℕ → List (List ℕ) → List ℕ → List ℕ → Type 0
-TurnDone (On h) g x prefix limit least ps cs ds = Going g x prefix limit ps cs ds h
-TurnDone (Answer r) g x prefix limit least ps cs ds = NextDone r g x prefix limit least ps cs ds
+unfoldable pub TurnDone : ControlFlow (Option Next) Engine → Engine → ℕ → List ℕ → ℕ → ℕ → List (List ℕ) → List ℕ → List ℕ → Type 0
+TurnDone (Continue h) g x prefix limit least ps cs ds = Going g x prefix limit ps cs ds h
+TurnDone (Break r) g x prefix limit least ps cs ds = NextDone r g x prefix limit least ps cs ds
 
 -- THE RUN OF TURNS: the engine h now has the words that g had at the start
 pub record Run (g : Engine) (x : ℕ) (prefix : List ℕ) (limit : ℕ) (ps : List (List ℕ)) (cs : List ℕ) (h : Engine) (ds : List ℕ) : Type 0 where

@@ -9,8 +9,8 @@ use lib.ListN.{length}
 use borrow.Author.Tests.{not-true, not-false, leb-true, leb-false, lt-ltb, le-ltb}
 use Rattle.runs.specs.Parts.{laid}
 use Rattle.runs.proofs.Parts.{length-laid, laid-laid}
-use Rattle.codes.specs.declared.Written.{Written}
-use Rattle.codes.specs.declared.Written.TheVariants.{Text, NoRoom}
+use Rattle.std.specs.Prelude.{Result, Ok, Err}
+use Rattle.error.specs.declared.NoRoom.{NoRoom}
 use Rattle.codes.specs.Codes.{version, codes_text}
 use Rattle.codes.specs.Writing.{written, leaves, Wrote, lines_to, Placed}
 use Rattle.codes.proofs.Lengths.{length-codes_text}
@@ -24,12 +24,12 @@ module _ (out p e m : List ℕ) (count : ℕ) where
   unfolding codes_text version lines_to
   text_is = let z : count - 0 ≡ count = omega arith in rw z
 
-  pub wrote_few : length m / 8 < count → Wrote out p e m count NoRoom out
+  pub wrote_few : length m / 8 < count → Wrote out p e m count (Err (record {})) out
   unfolding written leaves
   wrote_few h = record { is = rw (lt-ltb (length m) (count * 8) (omega arith)); run = refl }
 
   module _ (h : count ≤ length m / 8) (b : Bool) (q : b ≡ leb (length (codes_text p e m count)) (length out)) where
-    pub wrote_long : not b ≡ true → Wrote out p e m count NoRoom out
+    pub wrote_long : not b ≡ true → Wrote out p e m count (Err (record {})) out
     unfolding written leaves
     wrote_long n =
         let k = leb-false (length (codes_text p e m count)) (length out) (sym q ∙ not-true b n) in
@@ -51,7 +51,7 @@ module _ (out p e m : List ℕ) (count : ℕ) where
             let l = length-laid out 0 first_line (omega (arith, wrote_first)) in
             omega (arith, room, length-codes_text p e m count, k.behind, ap length k.is, l)
 
-        pub wrote_text : (zs : List ℕ) (r : ℕ) → Placed ys zs first (lines_to p e m count 0) r → Wrote out p e m count (Text r) zs
+        pub wrote_text : (zs : List ℕ) (r : ℕ) → Placed ys zs first (lines_to p e m count 0) r → Wrote out p e m count (Ok r) zs
         unfolding written leaves
         wrote_text zs r l =
             let t = length-codes_text p e m count in
@@ -63,8 +63,8 @@ module _ (out p e m : List ℕ) (count : ℕ) where
             }
 
 -- ONE OUTCOME: of two that the contract of `write_codes` allows for the same run and merges, all is equal
-pub wrote_single : {out p e m : List ℕ} {count : ℕ} {r q : Written} {out' out'' : List ℕ} → Wrote out p e m count r out' → Wrote out p e m count q out''
+pub wrote_single : {out p e m : List ℕ} {count : ℕ} {r q : Result ℕ NoRoom} {out' out'' : List ℕ} → Wrote out p e m count r out' → Wrote out p e m count q out''
     → (r ≡ q) × (out' ≡ out'')
 wrote_single {out} {p} {e} {m} {count} a b =
     let s = a.is ∙ sym b.is in
-    (s, a.run ∙ ap (λ (x : Written). leaves x out (codes_text p e m count)) s ∙ sym b.run)
+    (s, a.run ∙ ap (λ (x : Result ℕ NoRoom). leaves x out (codes_text p e m count)) s ∙ sym b.run)

@@ -8,8 +8,8 @@ use Rattle.rule.specs.Shapes.{spell_all, rise_to, shaped}
 use Rattle.rule.specs.Layout.{piece_shape, piece_count, piece_start, piece_length, piece_at}
 use Rattle.rule.specs.Outcome.{look_up}
 use Rattle.vocab.specs.Reading.{piece_given}
-use Rattle.codes.specs.declared.Written.{Written}
-use Rattle.codes.specs.declared.Written.TheVariants.{Text, NoRoom}
+use Rattle.std.specs.Prelude.{Result, Ok, Err}
+use Rattle.error.specs.declared.NoRoom.{NoRoom}
 use Rattle.codes.specs.Codes.{version, code_line, left_of, right_of, line_of, lines_of, codes_text}
 use Rattle.codes.specs.Writing.{written}
 
@@ -36,7 +36,7 @@ three =
     ++ (97 ∷ 32 ∷ 97 ∷ 98 ∷ 60 ∷ 47 ∷ 119 ∷ 62 ∷ 10 ∷ [])
 
 -- texts of no, three and four merges; ends that are no table; rooms that just do and do not suffice, and too few merges
-pub examples_hold : ◌≡◌ {A = List (List ℕ) × List Written} (
+pub examples_hold : ◌≡◌ {A = List (List ℕ) × List (Result ℕ NoRoom)} (
   codes_text pieces ends merges 0
       ∷ codes_text pieces ends merges 3
       ∷ codes_text pieces ends merges 4
@@ -49,7 +49,7 @@ pub examples_hold : ◌≡◌ {A = List (List ℕ) × List Written} (
       ∷ (head ++ three ++ (32 ∷ 97 ∷ 10 ∷ []))
       ∷ (head ++ (32 ∷ 10 ∷ []))
       ∷ [],
-  Text 40 ∷ NoRoom ∷ NoRoom ∷ [],
+  Ok 40 ∷ Err (record {}) ∷ Err (record {}) ∷ [],
 )
 unfolding flat_map part little spell load loads numbers spell_all rise_to shaped piece_shape piece_count piece_start piece_length piece_at look_up piece_given
     version code_line left_of right_of line_of lines_of codes_text written

@@ -5,8 +5,8 @@ use Prim.Native.Nat.{ℕ, ◌+◌, ◌<◌, ◌≤◌}
 use native.Mathlib.Omega.{arith}
 use lib.ListN.{length, set, length-append}
 use lib.Seq.{append_snoc}
-use Rattle.runs.specs.Parts.{put, part, laid}
-use Rattle.runs.proofs.Parts.{part_all, laid_none, laid-more, laid-laid, length-laid}
+use Rattle.runs.specs.Parts.{put, laid}
+use Rattle.runs.proofs.Parts.{laid_none, laid-more, laid-laid, length-laid}
 use Rattle.vocab.specs.Reading.{piece_given}
 use Rattle.codes.specs.Codes.{code_line, left_of, right_of, line_of}
 use Rattle.codes.specs.Writing.{lines_to, Placed, Going}
@@ -14,13 +14,13 @@ use Rattle.codes.proofs.Lengths.{line_is, lines_step, lines_over, length-lines_s
 
 -- A SPELLING and one byte
 
-pub put-laid : (xs ys s : List ℕ) (at byte : ℕ) → at + (length s + 1) ≤ length xs → ys ≡ laid xs at (part 0 (length s) s)
+pub put-laid : (xs ys s : List ℕ) (at byte : ℕ) → at + (length s + 1) ≤ length xs → ys ≡ laid xs at s
     → Placed xs (set ys (at + length s) byte) at (s ++ (byte ∷ [])) (at + length s + 1)
 unfolding put
 put-laid xs ys s at byte h e =
     let m = laid-more xs at s byte (omega arith) in
     record {
-      is = rw (e, part_all (length s) s (omega arith)) m;
+      is = rw e m;
       behind = simp length-append (omega arith);
     }
 

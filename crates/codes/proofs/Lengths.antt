@@ -2,41 +2,20 @@
 use mathlib.Core.Path.{◌≡◌, refl, sym, ap, ◌∙◌}
 use mathlib.Core.Bool.{Bool, true, false, not}
 use mathlib.Core.List.{List, [], ◌∷◌, ◌++◌}
-use Prim.Native.Nat.{ℕ, suc, ◌+◌, ◌-◌, ◌*◌, ◌<◌, ◌≤◌}
+use Prim.Native.Nat.{ℕ, suc, ◌+◌, ◌-◌, ◌<◌, ◌≤◌}
 use native.Mathlib.Omega.{arith}
 use native.Mathlib.Numerals.{add-one}
 use lib.Dec.{leb}
 use lib.ListN.{length, length-append}
 use borrow.Author.Tests.{not-true, not-false, leb-true, leb-false, le-leb, lt-leb}
 use Rattle.runs.proofs.Parts.{below_or_not}
-use Rattle.numbers.specs.Little.{load}
 use Rattle.vocab.specs.Reading.{piece_given}
 use Rattle.codes.specs.Codes.{version, code_line, left_of, right_of, line_of, lines_of, codes_text}
 use Rattle.codes.specs.Writing.{lines_to}
 
-pub left_is : (merges : List ℕ) (i r : ℕ) → r ≡ load 4 merges (i * 8) → r ≡ left_of merges i
-unfolding left_of
-left_is merges i r e = e
-
-pub right_is : (merges : List ℕ) (i r : ℕ) → r ≡ load 4 merges (i * 8 + 4) → r ≡ right_of merges i
-unfolding right_of
-right_is merges i r e = e
-
 -- two tests that hold together
 same_test : (a b c d : ℕ) → (a ≤ b → c ≤ d) → (b < a → d < c) → leb a b ≡ leb c d
 same_test a b c d f g = below_or_not b a (λ h. lt-leb a b h ∙ sym (lt-leb c d (g h))) (λ h. le-leb a b h ∙ sym (le-leb c d (f h)))
-
--- A LINE AGAINST A ROOM, part by part
-
-module _ (a b room : ℕ) where
-  pub fits_two : room < 2 → false ≡ leb (a + (b + 2)) room
-  fits_two h = sym (lt-leb (a + (b + 2)) room (omega arith))
-
-  pub fits_left : 2 ≤ room → room - 2 < a → false ≡ leb (a + (b + 2)) room
-  fits_left k h = sym (lt-leb (a + (b + 2)) room (omega arith))
-
-  pub fits_right : 2 ≤ room → a ≤ room - 2 → leb b (room - 2 - a) ≡ leb (a + (b + 2)) room
-  fits_right k h = same_test b (room - 2 - a) (a + (b + 2)) room (λ g. omega arith) (λ g. omega arith)
 
 -- THE TEXT, first line and lines
 
@@ -101,8 +80,3 @@ module _ (p e m : List ℕ) (i a b : ℕ) (x y : List ℕ) (ea : a ≡ left_of m
         let k = leb-true (length x + (length y + 2)) rest (sym q ∙ not-false t n) in
         let l = length-lines_step p e m count i h in
         inv ∙ same_test (length (lines_to p e m count i)) rest (length (lines_to p e m count (i + 1))) (rest - 2 - length x - length y) (λ g. omega (arith, k, length_line, l)) (λ g. omega (arith, k, length_line, l))
-
--- a line that fits can be taken off; the spellings are named by what `piece` says of them
-pub taken_off : (p e : List ℕ) (a b : ℕ) (x y : List ℕ) → x ≡ piece_given p e a → y ≡ piece_given p e b
-    → (rest : ℕ) (t : Bool) → t ≡ leb (length x + (length y + 2)) rest → not t ≡ false → length x + (length y + 2) ≤ rest
-taken_off p e a b x y ex ey rest t q n = leb-true (length x + (length y + 2)) rest (sym q ∙ not-false t n)

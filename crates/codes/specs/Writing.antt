@@ -1,23 +1,22 @@
 -- What writing a text of codes answers, and what is in the lent run then.
-use Rattle.std.specs.Prelude.{◌≡◌, cond, ◌||◌, List, ℕ, ◌+◌, ◌-◌, ◌*◌, ◌≤◌, ltb, length}
+use Rattle.std.specs.Prelude.{◌≡◌, cond, ◌||◌, List, ℕ, ◌+◌, ◌-◌, ◌*◌, ◌≤◌, ltb, length, Result, Ok, Err}
 use Rattle.runs.specs.Parts.{laid}
 use Rattle.codes.specs.Codes.{lines_of, codes_text}
-use Rattle.codes.specs.declared.Written.{Written}
-use Rattle.codes.specs.declared.Written.TheVariants.{Text, NoRoom}
+use Rattle.error.specs.declared.NoRoom.{NoRoom}
 
 -- there are fewer merges than asked for, or the text has no room
-unfoldable pub written : ℕ → List ℕ → List ℕ → List ℕ → ℕ → Written
+unfoldable pub written : ℕ → List ℕ → List ℕ → List ℕ → ℕ → Result ℕ NoRoom
 written room pieces ends merges count =
-    cond (ltb (length merges) (count * 8) || ltb room (length (codes_text pieces ends merges count))) NoRoom (
-    Text (length (codes_text pieces ends merges count)))
+    cond (ltb (length merges) (count * 8) || ltb room (length (codes_text pieces ends merges count))) (Err (record {})) (
+    Ok (length (codes_text pieces ends merges count)))
 
 -- what an answer leaves of the run
-unfoldable pub leaves : Written → List ℕ → List ℕ → List ℕ
-leaves (Text n) was new = laid was 0 new
-leaves NoRoom was new = was
+unfoldable pub leaves : Result ℕ NoRoom → List ℕ → List ℕ → List ℕ
+leaves (Ok n) was new = laid was 0 new
+leaves (Err e) was new = was
 
 -- the answer r, and the run before and after it
-pub record Wrote (out : List ℕ) (pieces ends merges : List ℕ) (count : ℕ) (r : Written) (out' : List ℕ) : Type 0 where
+pub record Wrote (out : List ℕ) (pieces ends merges : List ℕ) (count : ℕ) (r : Result ℕ NoRoom) (out' : List ℕ) : Type 0 where
   pub is : r ≡ written (length out) pieces ends merges count
   pub run : out' ≡ leaves r out (codes_text pieces ends merges count)
 

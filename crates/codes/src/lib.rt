@@ -8,6 +8,8 @@ ghost use Rattle.std.specs.Prelude.{◌≡◌, [], ◌∷◌, ◌++◌, ◌+◌,
 ghost use Rattle.codes.specs.Codes.{left_of, right_of, line_of, codes_text};
 ghost use Rattle.codes.specs.Writing.{Wrote, Placed, lines_to};
 
+use error::NoRoom;
+
 // What stands between two spellings.
 const SPACE: u8 = 32;
 
@@ -17,20 +19,16 @@ const LF: u8 = 10;
 // The first line has so many bytes, its LF included.
 const FIRST_LINE: usize = 14;
 
-// The left number of the i-th merge.
-fn left_of(merges: &[u8], i: usize) -> u64
+// The two numbers of the i-th merge, the left one first.
+#[tactic(auto, unfolding(crate::specs::Codes::left_of, crate::specs::Codes::right_of))]
+fn pair_of(merges: &[u8], i: usize) -> (u64, u64)
     requires { i * 8 + 8 ≤ length merges.now }
-    ensures { result ≡ left_of merges.now i }
+    ensures left { result.0 ≡ left_of merges.now i }
+    ensures right { result.1 ≡ right_of merges.now i }
 {
-    numbers::load4(merges, i * 8) as u64
-}
-
-// The right number of the i-th merge.
-fn right_of(merges: &[u8], i: usize) -> u64
-    requires { i * 8 + 8 ≤ length merges.now }
-    ensures { result ≡ right_of merges.now i }
-{
-    numbers::load4(merges, i * 8 + 4) as u64
+    let left = numbers::load4(merges, i * 8);
+    let right = numbers::load4(merges, i * 8 + 4);
+    (u64::from(left), u64::from(right))
 }
 
 // Tells whether the line of two spellings fits a room, with no sum that could wrap.
@@ -56,15 +54,14 @@ fn fits(pieces: &[u8], ends: &[u8], merges: &[u8], count: usize, room: usize) ->
         return false;
     }
     let mut rest = room - FIRST_LINE;
-    let mut i = 0;
-    while i < count {
-        let left = vocab::piece(pieces, ends, left_of(merges, i));
-        let right = vocab::piece(pieces, ends, right_of(merges, i));
+    for i in 0..count {
+        let (l, r) = pair_of(merges, i);
+        let left = vocab::piece(pieces, ends, l);
+        let right = vocab::piece(pieces, ends, r);
         if !line_fits(left, right, rest) {
             return false;
         }
         rest = rest - 2 - left.len() - right.len();
-        i += 1;
     }
     true
 }
@@ -74,7 +71,7 @@ fn put(out: &mut [u8], at: usize, spelling: &[u8], byte: u8) -> usize
     requires { at + (length spelling.now + 1) ≤ length out.old }
     ensures { Placed out.old out.new at (spelling.now ++ (byte ∷ [])) result }
 {
-    runs::copy(out, at, spelling, 0, spelling.len());
+    runs::copy(out, at, spelling);
     let end = at + spelling.len();
     out[end] = byte;
     end + 1
@@ -92,8 +89,9 @@ fn write_line(
     requires { (i * 8 + 8 ≤ length merges.now) × (at + length (line_of pieces.now ends.now merges.now i) ≤ length out.old) }
     ensures { Placed out.old out.new at (line_of pieces.now ends.now merges.now i) result }
 {
-    let left = vocab::piece(pieces, ends, left_of(merges, i));
-    let right = vocab::piece(pieces, ends, right_of(merges, i));
+    let (l, r) = pair_of(merges, i);
+    let left = vocab::piece(pieces, ends, l);
+    let right = vocab::piece(pieces, ends, r);
     let middle = put(out, at, left, SPACE);
     put(out, middle, right, LF)
 }
@@ -111,38 +109,30 @@ fn write_lines(
     ensures { Placed out.old out.new from (lines_to pieces.now ends.now merges.now count 0) result }
 {
     let mut at = from;
-    let mut i = 0;
-    while i < count {
+    for i in 0..count {
         at = write_line(out, at, pieces, ends, merges, i);
-        i += 1;
     }
     at
 }
 
-// The text that is written has so many bytes; or there are fewer merges than asked for, or the run
-// has no room for the text.
-#[derive(Clone, Copy)]
-pub enum Written {
-    Text(usize),
-    NoRoom,
-}
-
-// Writes the text of the first `count` merges at the start of the run.
+// Writes the text of the first `count` merges at the start of the run, and gives how many bytes it
+// has. It is refused where there are fewer merges, or where the run has no room for the text.
+// Stays: the count beside the merges: fewer merges than asked for is a refusal (`written`).
 pub fn write_codes(
     out: &mut [u8],
     pieces: &[u8],
     ends: &[u8],
     merges: &[u8],
     count: usize,
-) -> Written
+) -> Result<usize, NoRoom>
     ensures { Wrote out.old pieces.now ends.now merges.now count result out.new }
 {
     if merges.len() / 8 < count {
-        return Written::NoRoom;
+        return Err(NoRoom);
     }
     if !fits(pieces, ends, merges, count, out.len()) {
-        return Written::NoRoom;
+        return Err(NoRoom);
     }
     let first = put(out, 0, b"#version: 0.2", LF);
-    Written::Text(write_lines(out, first, pieces, ends, merges, count))
+    Ok(write_lines(out, first, pieces, ends, merges, count))
 }

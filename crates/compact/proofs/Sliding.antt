@@ -5,7 +5,7 @@ use mathlib.Core.Logic.{◌⊎◌, inl, inr}
 use Prim.Native.Nat.{ℕ, ◌+◌, ◌*◌, ◌≤◌, ◌<◌}
 use native.Mathlib.Omega.{arith}
 use lib.ListN.{length}
-use Rattle.runs.specs.Parts.{nth, put, part, laid, Kept}
+use Rattle.runs.specs.Parts.{nth, part, laid, Kept}
 use Rattle.runs.proofs.Parts.{same_or_not, below_or_not, nth-put, nth-put_other, length-part, part-laid, part_ext}
 use Rattle.runs.proofs.Frames.{kept_none, kept_then, kept-laid}
 use Rattle.rule.specs.Seeding.{Entry}
@@ -15,10 +15,6 @@ use Rattle.word.specs.declared.WordSet.{WordSet}
 use Rattle.word.proofs.Views.{symbols_length, corpus_none, corpus_entry, corpus-more, corpus-lines, lines-same, length_moved, line_moved, line-same, in_use-append}
 use Rattle.word.proofs.Sets.{word_symbols, words_room}
 use Rattle.compact.specs.Compacting.{Compacted, Relocated, Moved, Sliding}
-
-pub relocated : (at s to n : ℕ) (cs ds es : List ℕ) → ds ≡ laid cs to (part s n cs) → length ds ≡ length cs → es ≡ put ds at to → length es ≡ length ds
-    → Relocated at s to n cs es
-relocated at s to n cs ds es d l e m = record { is = rw d at e; long = m ∙ l }
 
 -- A WORD THAT IS WHERE IT SHALL BE, and one that is moved
 

@@ -9,8 +9,11 @@ ghost use Rattle.cells.specs.Cells.{cells};
 ghost use Rattle.word.specs.Layout.{Words};
 ghost use Rattle.compact.specs.Compacting.{sparse, Relocated, Moved, Compacted};
 
+use word::WordSet;
+
 // Whether the gaps have come to take more cells than the symbols.
-pub fn is_sparse(w: word::WordSet) -> bool
+#[tactic(auto, unfolding(crate::specs::Compacting::sparse))]
+pub fn is_sparse(w: WordSet) -> bool
     requires { (w.low + w.live + 2 * w.count ≤ w.top) × (w.top < 2 ^ 61) }
     ensures { result ≡ sparse w }
 {
@@ -28,7 +31,7 @@ fn relocate(room: &mut [u8], place: usize, s: usize, to: usize, n: usize)
 }
 
 // Moves word k down to the cell `to`, and says where it ends then.
-fn slide(room: &mut [u8], w: word::WordSet, k: usize, to: usize) -> usize
+fn slide(room: &mut [u8], w: WordSet, k: usize, to: usize) -> usize
     requires words { Words w (cells room.old) }
     requires k_lt_count { k < w.count }
     requires low_le_to { (w.low ≤ to) × (to ≤ nth (cells room.old) (w.starts + k)) }
@@ -45,21 +48,13 @@ fn slide(room: &mut [u8], w: word::WordSet, k: usize, to: usize) -> usize
 
 // Puts each word right behind the one before, as it is and under the number that it had, and lowers
 // the top.
-pub fn compact(room: &mut [u8], w: word::WordSet) -> word::WordSet
+pub fn compact(room: &mut [u8], w: WordSet) -> WordSet
     requires { Words w (cells room.old) }
     ensures { Compacted w (cells room.old) (cells room.new) result }
 {
-    let mut k = 0;
     let mut to = w.low;
-    while k < w.count {
+    for k in 0..w.count {
         to = slide(room, w, k, to);
-        k += 1;
     }
-    word::WordSet {
-        starts: w.starts,
-        count: w.count,
-        low: w.low,
-        top: to,
-        live: w.live,
-    }
+    WordSet { top: to, ..w }
 }

@@ -1,5 +1,5 @@
 -- The laws of counting a pair. Assumes nothing.
-use mathlib.Core.Path.{◌≡◌, refl, sym, ap}
+use mathlib.Core.Path.{◌≡◌, refl}
 use mathlib.Core.List.{List, [], ◌∷◌}
 use Prim.Native.Nat.{ℕ, ◌+◌, ◌-◌, ◌*◌, ◌^◌, ◌≤◌, ◌<◌}
 use native.Mathlib.Omega.{arith}
@@ -10,24 +10,12 @@ use Rattle.rule.specs.Rewriting.{bit, is_pair, link, count_in}
 use Rattle.rule.specs.Seeding.{Entry}
 use Rattle.rule.specs.Training.{count}
 use Rattle.rule.specs.Sums.{symbols_in}
-use Rattle.rule.proofs.Rewriting.{pair_hit, pair_miss}
 use Rattle.rule.proofs.Counts.{count-length}
 use Rattle.word.specs.Layout.{symbol_in, symbols_at, entry_at, Found, words_in}
 use Rattle.word.specs.declared.WordSet.{WordSet}
 use Rattle.word.specs.declared.Span.{Span}
 use Rattle.word.proofs.Views.{symbols_length, symbols_two, symbols_next, corpus-length, drop_entry}
 use Rattle.counting.specs.Counting.{Tested, Counted}
-
--- A PAIR, as a number
-module _ (s t p q : ℕ) where
-  pub hit_both : s ≡ p → t ≡ q → Tested p q s t 1
-  hit_both e f = record { is = sym (ap bit (pair_hit p q s t e f)); few = omega arith }
-
-  pub hit_not_left : (s ≡ p → ⊥) → Tested p q s t 0
-  hit_not_left e = record { is = sym (ap bit (pair_miss p q s t (λ h _. e h))); few = omega arith }
-
-  pub hit_not_right : (t ≡ q → ⊥) → Tested p q s t 0
-  hit_not_right e = record { is = sym (ap bit (pair_miss p q s t (λ _ h. e h))); few = omega arith }
 
 -- THE POSITIONS OF A WORD
 
@@ -46,19 +34,23 @@ module _ (p q at n : ℕ) (cs : List ℕ) where
   count_few : n ≤ 1 → at + n ≤ length cs → count_in p q (symbols_at at n cs) ≡ 0
   count_few h l = count-short p q (symbols_at at n cs) (omega (arith, symbols_length at n cs l))
 
-module _ (p q start n : ℕ) (cs : List ℕ) where
-  pub hits_start : count_in p q (symbols_at start n cs) ≡ 0 + count_in p q (symbols_at start n cs)
-  hits_start = omega arith
+-- the loop, at the i-th symbol: what is to come begins with the symbol before it
+module _ (p q start n : ℕ) (cs : List ℕ) (room : start + n ≤ length cs) where
+  pub hits_start : count_in p q (symbols_at start n cs) ≡ 0 + count_in p q (symbols_at (start + 1 - 1) (n + 1 - 1) cs)
+  hits_start = let a : start + 1 - 1 ≡ start = omega arith in let b : n + 1 - 1 ≡ n = omega arith in rw (a, b) (omega arith)
 
-  module _ (at left hits : ℕ) (inv : count_in p q (symbols_at start n cs) ≡ hits + count_in p q (symbols_at at left cs)) (room : at + left ≤ length cs) where
-    pub hits-turn : 1 < left → (s t v : ℕ) → s ≡ symbol_in (nth cs at) → t ≡ symbol_in (nth cs (at + 1)) → Tested p q s t v
-        → count_in p q (symbols_at start n cs) ≡ hits + v + count_in p q (symbols_at (at + 1) (left - 1) cs)
+  module _ (i hits : ℕ) (inv : count_in p q (symbols_at start n cs) ≡ hits + count_in p q (symbols_at (start + i - 1) (n + 1 - i) cs)) (low : 1 ≤ i) where
+    pub hits-turn : i < n → (s t v : ℕ) → s ≡ symbol_in (nth cs (start + i - 1)) → t ≡ symbol_in (nth cs (start + i)) → Tested p q s t v
+        → count_in p q (symbols_at start n cs) ≡ hits + v + count_in p q (symbols_at (start + (i + 1) - 1) (n + 1 - (i + 1)) cs)
     hits-turn h s t v es et ev =
-        let e : v ≡ bit (is_pair p q (symbol_in (nth cs at)) (symbol_in (nth cs (at + 1)))) = rw (es, et) at ev.is in
-        omega (arith, count_two p q at left cs h room)
+        let at : start + i - 1 + 1 ≡ start + i = omega arith in
+        let next : start + (i + 1) - 1 ≡ start + i - 1 + 1 = omega arith in
+        let left : n + 1 - (i + 1) ≡ n + 1 - i - 1 = omega arith in
+        let e : v ≡ bit (is_pair p q (symbol_in (nth cs (start + i - 1))) (symbol_in (nth cs (start + i - 1 + 1)))) = rw (at, ← es, ← et) ev.is in
+        rw (next, left) (omega (arith, count_two p q (start + i - 1) (n + 1 - i) cs (omega arith) (omega arith)))
 
-    pub hits_end : left ≤ 1 → hits ≡ count_in p q (symbols_at start n cs)
-    hits_end h = omega (arith, count_few p q at left cs h room)
+    pub hits_end : n ≤ i → i ≤ n + 1 → hits ≡ count_in p q (symbols_at start n cs)
+    hits_end h m = omega (arith, count_few p q (start + i - 1) (n + 1 - i) cs (omega arith) (omega arith))
 
 -- THE WORDS OF A SET
 

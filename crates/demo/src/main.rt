@@ -5,13 +5,12 @@
 // are none: `too long`, `bad line N` or `refused: N`.
 #![tactic(auto)]
 
-ghost use Rattle.std.specs.Prelude.{◌≤◌, ◌/◌, IfOk, length};
+ghost use Rattle.std.specs.Prelude.{◌≤◌, ◌/◌, length};
 
-use codes::Written;
-use lines::Parsed;
+use lines::{ParseError, Parsed};
 use std::io;
-use std::io::{Print, Read};
-use trainer::Answer;
+use std::io::Print;
+use table::{Settings, Table};
 
 // Cuts a well-formed word into its characters.
 const CHARS: u64 = 1;
@@ -58,10 +57,9 @@ fn write(
     many: usize,
 ) -> io::Result<()> {
     let mut out = [0u8; 4096];
-    let r = codes::write_codes(&mut out, pieces, ends, merges, many);
-    match r {
-        Written::Text(n) => rt.write_all(&out[0..within(n as u64, 4096)]),
-        Written::NoRoom => Ok(()),
+    match codes::write_codes(&mut out, pieces, ends, merges, many) {
+        Ok(n) => rt.write_all(&out[0..within(n as u64, 4096)]),
+        Err(_) => Ok(()),
     }
 }
 
@@ -87,18 +85,24 @@ fn train(rt: &impl Print, words: &[u8], word_ends: &[u8], frequencies: &[u8]) ->
     let mut ends = [0u8; 256];
     let mut merges = [0u8; 512];
     let mut savings = [0u8; 512];
-    let r = trainer::train(
+    let t = Table {
         words,
         word_ends,
         frequencies,
-        b"",
-        b"",
-        b"",
-        b"</w>",
-        CHARS,
-        SIZE,
-        MINIMUM,
-        NO_LIMIT,
+        alphabet: b"",
+        alphabet_ends: b"",
+        prefix: b"",
+        suffix: b"</w>",
+        seeding: CHARS,
+    };
+    let settings = Settings {
+        vocab_size: SIZE,
+        min_frequency: MINIMUM,
+        max_piece_length: NO_LIMIT,
+    };
+    let r = trainer::train(
+        t,
+        settings,
         &mut work,
         &mut pieces,
         &mut ends,
@@ -106,12 +110,8 @@ fn train(rt: &impl Print, words: &[u8], word_ends: &[u8], frequencies: &[u8]) ->
         &mut savings,
     );
     match r {
-        Answer::Done {
-            pieces: count,
-            alphabet: _,
-            merges: many,
-        } => answer(rt, &pieces, &ends, &merges, count, many),
-        Answer::Refused(why) => line(rt, b"refused: ", why.number()),
+        Ok(r) => answer(rt, &pieces, &ends, &merges, r.pieces, r.merges),
+        Err(why) => line(rt, b"refused: ", why.number()),
     }
 }
 
@@ -121,12 +121,11 @@ fn run(rt: &impl Print, s: &[u8]) -> io::Result<()> {
     let mut words = [0u8; 1024];
     let mut ends = [0u8; 256];
     let mut frequencies = [0u8; 512];
-    let r = lines::parse(s, &mut words, &mut ends, &mut frequencies);
-    match r {
-        Parsed::NoRoom => Ok(()),
-        Parsed::TooLong => rt.write_all(b"too long\n"),
-        Parsed::BadLine(n) => line(rt, b"bad line ", n as u64),
-        Parsed::Table { count, bytes } => {
+    match lines::parse(s, &mut words, &mut ends, &mut frequencies) {
+        Err(ParseError::NoRoom) => Ok(()),
+        Err(ParseError::TooLong) => rt.write_all(b"too long\n"),
+        Err(ParseError::BadLine(n)) => line(rt, b"bad line ", n as u64),
+        Ok(Parsed { count, bytes }) => {
             let n = within(count as u64, 64);
             train(
                 rt,
@@ -138,27 +137,9 @@ fn run(rt: &impl Print, s: &[u8]) -> io::Result<()> {
     }
 }
 
-// Reads until the room is full or the input ends, and answers how many bytes came.
-fn read_full<R: Read>(input: &mut R, room: &mut [u8]) -> io::Result<usize>
-    ensures { IfOk result (λ n. n ≤ length room.new) }
-{
-    let mut n = 0;
-    for _ in 0..u64::MAX {
-        if n == room.len() {
-            break;
-        }
-        let more = input.read(&mut room[n..])?;
-        if more == 0 {
-            break;
-        }
-        n += more;
-    }
-    Ok(n)
-}
-
 // One byte over the limit is enough to know that a text is too long.
 fn main(rt: HostRuntime) -> io::Result<()> {
     let mut input = [0u8; 1025];
-    let n = read_full(&mut rt.reader(), &mut input)?;
+    let n = inputs::read_full(&mut rt.reader(), &mut input)?;
     run(&rt, &input[..n])
 }

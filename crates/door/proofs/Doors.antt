@@ -10,8 +10,8 @@ use Rattle.rule.specs.Refusals.{Verdict}
 use Rattle.rule.specs.Outcome.{told, merge_verdict, Merged, merge_outcome}
 use Rattle.rule.proofs.Merging.{merge_short, merge_refused, merge_done}
 use Rattle.symbols.specs.Merging.{verdict_of, Merging}
-use Rattle.symbols.specs.declared.Merge.{Merge}
-use Rattle.symbols.specs.declared.Merge.TheVariants.{Done, Refused}
+use Rattle.std.specs.Prelude.{Result, Ok, Err}
+use Rattle.symbols.specs.declared.Merged as symbols
 use Rattle.error.specs.declared.MergeError.{MergeError}
 use Rattle.error.specs.declared.MergeError.TheVariants.{BadShape, ChangeRoom}
 use Rattle.error.specs.Answers.{merge_error_verdict}
@@ -41,7 +41,7 @@ module _ (s : List ℕ) (a b x : ℕ) (c answer : List ℕ) where
         (λ z. sym (ap (λ (o : Merged). o.answer) (merge_done s a b x c answer h z)))
         (λ n. sym (ap (λ (o : Merged). o.answer) (merge_refused s a b x c answer h n)))
 
-    module _ (m : Merge) (s' c' : List ℕ) (σ : Merging s a b x c m s' c') where
+    module _ (m : Result symbols.Merged MergeError) (s' c' : List ℕ) (σ : Merging s a b x c m s' c') where
       whole : (k : ℕ) (new : List ℕ) → k ≡ (verdict_of m).number → new ≡ told answer (verdict_of m).gives → merged k s' c' new ≡ merge_outcome s a b x c answer
       whole k new ek en =
           fields k (merge_outcome s a b x c answer).returned s' (merge_outcome s a b x c answer).symbols c' (merge_outcome s a b x c answer).changes new (merge_outcome s a b x c answer).answer
@@ -55,14 +55,14 @@ module _ (s : List ℕ) (a b x : ℕ) (c answer : List ℕ) where
       given_none BadShape = refl
       given_none ChangeRoom = refl
 
-      pub refused : (e : MergeError) (k : ℕ) → m ≡ Refused e → k ≡ (merge_error_verdict e).number
+      pub refused : (e : MergeError) (k : ℕ) → m ≡ Err e → k ≡ (merge_error_verdict e).number
           → (new : List ℕ) → new ≡ told answer (0 ∷ 0 ∷ 0 ∷ []) → merged k s' c' new ≡ merge_outcome s a b x c answer
       unfolding verdict_of nth
       refused e k f g new n = whole k new (rw f g) (n ∙ told_three answer [] (omega arith) h ∙ rw (f, given_none e))
 
-      pub success : (r k q : ℕ) → m ≡ Done r k q → (new : List ℕ) → new ≡ told answer (r ∷ k ∷ q ∷ []) → merged 0 s' c' new ≡ merge_outcome s a b x c answer
+      pub success : (d : symbols.Merged) → m ≡ Ok d → (new : List ℕ) → new ≡ told answer (d.rewrites ∷ d.kept ∷ d.reports ∷ []) → merged 0 s' c' new ≡ merge_outcome s a b x c answer
       unfolding verdict_of
-      success r k q e new f = whole 0 new (rw e) (f ∙ rw e)
+      success d e new f = whole 0 new (rw e) (f ∙ rw e)
 
 -- TWO OUTCOMES THAT THE CONTRACT ALLOWS ARE EQUAL
 pub merged_single : (s : List ℕ) (a b x : ℕ) (c answer : List ℕ) (r r' : ℕ) (s₁ s₂ c₁ c₂ n₁ n₂ : List ℕ)

@@ -3,9 +3,9 @@ use mathlib.Core.Path.{◌≡◌, sym, ap, ◌∙◌}
 use mathlib.Core.List.{List, [], ◌∷◌, ◌++◌, append_assoc, append-nil, flat_map}
 use Prim.Native.Nat.{ℕ, ◌≤◌}
 use native.Mathlib.Omega.{arith}
-use lib.ListN.{length, length-append}
+use lib.ListN.{length, replicate, length-append}
 use Rattle.runs.specs.Parts.{laid, zeros}
-use Rattle.runs.proofs.Parts.{length-zeros, laid-laid, laid_all}
+use Rattle.runs.proofs.Parts.{length-zeros, laid-laid}
 use Rattle.numbers.specs.Little.{spell, store}
 use Rattle.numbers.proofs.Little.{length-spell}
 use Rattle.rule.specs.Shapes.{spell_all}
@@ -15,11 +15,11 @@ use Rattle.trainer.proofs.Rooms.{laid-filled}
 
 module _ (answer : List ℕ) (long : 64 ≤ length answer) where
   -- as `give` writes them
-  pub given : (p q r : ℕ) (xs ys zs us : List ℕ) → xs ≡ laid answer 0 (zeros (length answer)) → ys ≡ store 8 xs 0 p → zs ≡ store 8 ys 8 q → us ≡ store 8 zs 16 r
+  pub given : (p q r : ℕ) (xs ys zs us : List ℕ) → xs ≡ replicate (length answer) 0 → ys ≡ store 8 xs 0 p → zs ≡ store 8 ys 8 q → us ≡ store 8 zs 16 r
       → us ≡ told answer (p ∷ q ∷ r ∷ [])
-  unfolding told store spell_all flat_map
+  unfolding told store spell_all flat_map zeros
   given p q r xs ys zs us ex ey ez eu =
-      let x : xs ≡ zeros (length answer) = ex ∙ laid_all answer in
+      let x : xs ≡ zeros (length answer) = ex in
       let n : length xs ≡ length answer = ap length x ∙ length-zeros (length answer) in
       let lp = length-spell 8 p in
       let lq = length-spell 8 q in

@@ -19,11 +19,10 @@ use Rattle.error.specs.declared.PieceError.TheVariants as no
 use Rattle.error.proofs.Told.{told_zero, told_three}
 use Rattle.error.proofs.Answers.{train_told}
 use Rattle.vocab.specs.Reading.{lookup_verdict, Looked}
-use Rattle.vocab.specs.declared.Lookup.{Lookup}
-use Rattle.vocab.specs.declared.Lookup.TheVariants as look
+use Rattle.std.specs.Prelude.{Result, Ok, Err}
+use Rattle.vocab.specs.declared.Place.{Place}
 use Rattle.trainer.specs.Train.{rooms_of, answered, Left, TrainDone}
-use Rattle.trainer.specs.declared.Answer.{Answer}
-use Rattle.trainer.specs.declared.Answer.TheVariants as is
+use Rattle.trainer.specs.declared.Trained.{Trained}
 use Rattle.door.specs.Door.{rooms, trained, read}
 
 -- TRAINING. No row asks for the answer run, and no other run is written by what is told in it
@@ -54,7 +53,7 @@ module _ (t : Task) (w x y m s answer : List ℕ) where
   unfolding train_outcome train_verdict
   train_short k h e = rw (e, lt-ltb (length answer) 64 h)
 
-  module _ (h : 64 ≤ length answer) (r : Answer) (w' x' y' m' s' : List ℕ) (d : TrainDone r t (rooms_of w x y m s) (rooms_of w' x' y' m' s')) where
+  module _ (h : 64 ≤ length answer) (r : Result Trained TrainError) (w' x' y' m' s' : List ℕ) (d : TrainDone r t (rooms_of w x y m s) (rooms_of w' x' y' m' s')) where
     whole : (k : ℕ) (new : List ℕ) → k ≡ (answered r).number → new ≡ told answer (answered r).gives
         → trained k (rooms w' x' y' m' s' new) ≡ train_outcome t (rooms w x y m s answer)
     unfolding train_outcome
@@ -62,11 +61,11 @@ module _ (t : Task) (w x y m s answer : List ℕ) where
         rw (le-ltb (length answer) 64 h, verdict_same, ← d.answer, ek, en)
         (ap (trained (answered r).number) (rooms_same (answered r) w' x' y' m' s' (rw (← d.answer) at d.rooms)))
 
-    pub train_success : (p a q : ℕ) → r ≡ is.Done p a q → (new : List ℕ) → new ≡ told answer (p ∷ a ∷ q ∷ []) → trained 0 (rooms w' x' y' m' s' new) ≡ train_outcome t (rooms w x y m s answer)
+    pub train_success : (z : Trained) → r ≡ Ok z → (new : List ℕ) → new ≡ told answer (z.pieces ∷ z.alphabet ∷ z.merges ∷ []) → trained 0 (rooms w' x' y' m' s' new) ≡ train_outcome t (rooms w x y m s answer)
     unfolding answered
-    train_success p a q e new f = whole 0 new (rw e) (rw e f)
+    train_success z e new f = whole 0 new (rw e) (rw e f)
 
-    pub train_refused : (e : TrainError) → r ≡ is.Refused e → (k i j : ℕ) → k ≡ (train_verdict e).number → i ≡ nth (train_verdict e).gives 0 → j ≡ nth (train_verdict e).gives 1
+    pub train_refused : (e : TrainError) → r ≡ Err e → (k i j : ℕ) → k ≡ (train_verdict e).number → i ≡ nth (train_verdict e).gives 0 → j ≡ nth (train_verdict e).gives 1
         → (new : List ℕ) → new ≡ told answer (i ∷ j ∷ 0 ∷ []) → trained k (rooms w' x' y' m' s' new) ≡ train_outcome t (rooms w x y m s answer)
     unfolding answered
     train_refused e q k i j ek ei ej new f =
@@ -85,12 +84,12 @@ module _ (xs ys : List ℕ) (n : ℕ) (answer : List ℕ) where
   unfolding piece_outcome piece_verdict
   piece_short k h e = rw (e, lt-ltb (length answer) 64 h)
 
-  module _ (h : 64 ≤ length answer) (r : Lookup) (d : Looked xs ys n r) where
+  module _ (h : 64 ≤ length answer) (r : Result Place PieceError) (d : Looked xs ys n r) where
     found : (k : ℕ) (new : List ℕ) → k ≡ (lookup_verdict r).number → new ≡ told answer (lookup_verdict r).gives → read k new ≡ piece_outcome xs ys n answer
     unfolding piece_outcome
     found k new ek en = rw (le-ltb (length answer) 64 h, ← d.is, ek, en)
 
-    pub piece_found : (from long : ℕ) → r ≡ look.At from long → (new : List ℕ) → new ≡ told answer (from ∷ long ∷ 0 ∷ []) → read 0 new ≡ piece_outcome xs ys n answer
+    pub piece_found : (from long : ℕ) → r ≡ Ok (record { start = from; length = long }) → (new : List ℕ) → new ≡ told answer (from ∷ long ∷ 0 ∷ []) → read 0 new ≡ piece_outcome xs ys n answer
     unfolding lookup_verdict
     piece_found from long q new f = found 0 new (rw q) (f ∙ rw q (told_zero answer (from ∷ long ∷ []) (omega arith)))
 
@@ -99,7 +98,7 @@ module _ (xs ys : List ℕ) (n : ℕ) (answer : List ℕ) where
     none no.BadShape = refl
     none no.NoSuchId = refl
 
-    pub piece_refused : (e : PieceError) → r ≡ look.Refused e → (k : ℕ) → k ≡ (piece_verdict e).number → (new : List ℕ) → new ≡ told answer (0 ∷ 0 ∷ 0 ∷ []) → read k new ≡ piece_outcome xs ys n answer
+    pub piece_refused : (e : PieceError) → r ≡ Err e → (k : ℕ) → k ≡ (piece_verdict e).number → (new : List ℕ) → new ≡ told answer (0 ∷ 0 ∷ 0 ∷ []) → read k new ≡ piece_outcome xs ys n answer
     unfolding lookup_verdict nth
     piece_refused e q k ek new f = found k new (rw q ek) (f ∙ told_three answer [] (omega arith) h ∙ rw (q, none e))
 

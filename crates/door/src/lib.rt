@@ -11,8 +11,9 @@ ghost use Rattle.trainer.specs.Train.{task_of};
 ghost use Rattle.door.specs.Door.{rooms, trained, read, merged};
 
 use error::{MergeError, PieceError, TrainError};
-use trainer::Answer;
-use vocab::Lookup;
+use step::Rule;
+use table::{Settings, Table};
+use vocab::Place;
 
 // Puts up to three numbers into an answer run, 8 bytes each from its start, and 0 into every other
 // byte. A number that is not given is 0, which leaves the same bytes.
@@ -20,14 +21,14 @@ fn give(answer: &mut [u8], first: u64, second: u64, third: u64)
     requires { 64 ≤ length answer.old }
     ensures { answer.new ≡ told answer.old (first ∷ second ∷ third ∷ []) }
 {
-    let n = answer.len();
-    runs::clear(answer, 0, n);
+    answer.fill(0);
     numbers::store8(answer, 0, first);
     numbers::store8(answer, 8, second);
     numbers::store8(answer, 16, third);
 }
 
 // Trains a vocabulary on a word table.
+// Stays: a parameter for each run and each setting, as C passes them (`include/rindovesh.h`).
 pub fn rindovesh_train(
     words: &[u8],
     word_ends: &[u8],
@@ -55,7 +56,7 @@ pub fn rindovesh_train(
     if answer.len() < 64 {
         return TrainError::BadShape.number();
     }
-    let r = trainer::train(
+    let t = Table {
         words,
         word_ends,
         frequencies,
@@ -64,25 +65,18 @@ pub fn rindovesh_train(
         prefix,
         suffix,
         seeding,
+    };
+    let settings = Settings {
         vocab_size,
         min_frequency,
         max_piece_length,
-        work,
-        pieces,
-        piece_ends,
-        merges,
-        savings,
-    );
-    match r {
-        Answer::Done {
-            pieces: p,
-            alphabet: a,
-            merges: m,
-        } => {
-            give(answer, p, a, m);
+    };
+    match trainer::train(t, settings, work, pieces, piece_ends, merges, savings) {
+        Ok(r) => {
+            give(answer, r.pieces, r.alphabet, r.merges);
             0
         }
-        Answer::Refused(why) => {
+        Err(why) => {
             give(answer, why.first(), why.second(), 0);
             why.number()
         }
@@ -96,13 +90,12 @@ pub fn rindovesh_piece(pieces: &[u8], piece_ends: &[u8], number: u64, answer: &m
     if answer.len() < 64 {
         return PieceError::BadShape.number();
     }
-    let found = vocab::look(pieces, piece_ends, number);
-    match found {
-        Lookup::At { start, length } => {
+    match vocab::look(pieces, piece_ends, number) {
+        Ok(Place { start, length }) => {
             give(answer, start as u64, length as u64, 0);
             0
         }
-        Lookup::Refused(why) => {
+        Err(why) => {
             give(answer, 0, 0, 0);
             why.number()
         }
@@ -125,19 +118,19 @@ pub fn rindovesh_merge_symbols(
     if answer.len() < 64 {
         return MergeError::BadShape.number();
     }
-    let m = symbols::merge_symbols(symbols, left, right, joined, changes);
-    match m {
-        symbols::Merge::Refused(why) => {
+    let rule = Rule {
+        a: left,
+        b: right,
+        x: joined,
+    };
+    match symbols::merge_symbols(symbols, rule, changes) {
+        Ok(m) => {
+            give(answer, m.rewrites, m.kept, m.reports);
+            0
+        }
+        Err(why) => {
             give(answer, 0, 0, 0);
             why.number()
-        }
-        symbols::Merge::Done {
-            rewrites,
-            kept,
-            reports,
-        } => {
-            give(answer, rewrites, kept, reports);
-            0
         }
     }
 }

@@ -12,6 +12,7 @@ ghost use Rattle.trainer.specs.Train.{task_of};
 ghost use Rattle.door.specs.Door.{rooms, trained, read, merged};
 
 // Trains a vocabulary on a word table.
+// Stays: the functions of `door` once more, as C calls them: a crate is a static library or a library, never both.
 #[unsafe(no_mangle)]
 pub extern "C" fn rindovesh_train(
     words: &[u8],

@@ -5,10 +5,15 @@ use mathlib.Core.Logic.{inl}
 use Prim.Native.Nat.{ℕ, ◌+◌, ◌*◌, ◌<◌, ◌≤◌}
 use native.Mathlib.Omega.{arith}
 use lib.ListN.{length}
+use mathlib.Core.Bool.{Bool, ◌&&◌}
 use Rattle.runs.specs.Parts.{nth}
+use Rattle.rfc3629.specs.Cut.{well_formed, units_by}
+use Rattle.text.specs.Units.{by_chars}
+use Rattle.text.specs.declared.Seeding.{Seeding}
+use Rattle.text.proofs.Steps.{start_units}
 use Rattle.numbers.specs.Little.{numbers}
 use Rattle.cells.specs.Cells.{cells}
-use Rattle.rule.specs.Table.{total}
+use Rattle.rule.specs.Table.{chars, units, total}
 use Rattle.rule.specs.Spelling.{decorate}
 use Rattle.rule.specs.Seeding.{Entry, intern, number_of, keep, kept_with}
 use Rattle.rule.proofs.Spelling.{length-decorate}
@@ -24,11 +29,17 @@ use Rattle.pushing.specs.Pushing.{Opened, Pushed}
 use Rattle.word.specs.declared.WordSet.{WordSet}
 use Rattle.encoding.specs.Encoding.{after, WordDone, EntryDone, WordsDone}
 use Rattle.encoding.specs.declared.Worded.{Worded}
-use Rattle.encoding.specs.declared.Worded.TheVariants as worded
 use Rattle.encoding.specs.declared.Encoded.{Encoded}
-use Rattle.encoding.specs.declared.Encoded.TheVariants as encoded
+use Rattle.error.specs.declared.NoRoom.{NoRoom}
+use Rattle.std.specs.Prelude.{Result, Ok, Err, IsErr}
 
 -- ONE WORD: us are its units, however the code came by them
+pub entry_units : (d : Seeding) (seeding : ℕ) → by_chars d ≡ chars seeding → (whole : Bool) (v : List ℕ)
+    → whole ≡ (by_chars d && well_formed v) → units_by whole v ≡ units seeding v
+entry_units d seeding c whole v e = start_units d seeding c whole v e
+
+pub entry_room : (us ms : List (List ℕ)) (n base : ℕ) → ms ≡ us → n + length us ≤ base → n + length ms ≤ base
+entry_room us ms n base e h = rw e h
 
 module _ (w : WordSet) (base cap c u f : ℕ) (p s : List ℕ) (us ms : List (List ℕ)) (e : ms ≡ us) (rs os xs ys : List ℕ) (o : Opened w f (cells rs) (cells os))
     (room : w.top + 2 + length us ≤ base) where
@@ -38,31 +49,34 @@ module _ (w : WordSet) (base cap c u f : ℕ) (p s : List ℕ) (us ms : List (Li
     slots = rw e k.slots;
   }
 
-  module _ (a : Worded) (qs vs ws : List ℕ) (d : WordDone a w base cap c u p s ms os xs ys qs vs ws) where
-    pub entry_out : a ≡ worded.NoRoom → EntryDone encoded.NoRoom w base cap c u f p s us rs xs ys qs vs ws
+  module _ (qs vs ws : List ℕ) where
+    pub entry_out : (x : NoRoom) → WordDone (Err x) w base cap c u p s ms os xs ys qs vs ws → (r : Result Encoded NoRoom) → IsErr r
+        → EntryDone r w base cap c u f p s us rs xs ys qs vs ws
     unfolding WordDone EntryDone
-    entry_out q = rw (q, e) at d
+    entry_out x d (Ok r) z = absurd cc
+    entry_out x d (Err y) z = rw e at d
 
-    module _ (c' u' n : ℕ) (q : a ≡ worded.Done c' u' n) where
-      pub entry_push : Words w (cells qs) × (w.top + 2 + n ≤ length (cells qs))
+    module _ (a : Worded) (d : WordDone (Ok a) w base cap c u p s ms os xs ys qs vs ws) where
+      pub entry_push : Words w (cells qs) × (w.top + 2 + a.symbols ≤ length (cells qs))
       unfolding WordDone
       entry_push =
-          let h = rw (q, e) at d in
+          let h = rw e at d in
           (h.2.set, omega (arith, h.1, h.0.ok.known.room))
 
-      pub entry_done : w.starts + w.count < w.low → (es : List ℕ) (r : WordSet) → Pushed w n (cells qs) (cells es) r → EntryDone (encoded.Done c' u' r) w base cap c u f p s us rs xs ys es vs ws
+      pub entry_done : w.starts + w.count < w.low → (es : List ℕ) (r : Encoded) → r.filled ≡ a.filled → Pushed w a.symbols (cells qs) (cells es) r.words
+          → EntryDone (Ok r) w base cap c u f p s us rs xs ys es vs ws
       unfolding WordDone EntryDone
-      entry_done l es r k =
-          let h = rw (q, e) at d in
+      entry_done l es r m k =
+          let h = rw e at d in
           let b = h.2 in
           let z = b.set.in_line.span in (
-            ran_cells base cap c u xs ys (after xs ys c (decorate p s us)) [] (cells qs) vs ws c' u' h.0 (cells es)
-                (pieces_elsewhere base cap (cells qs) (cells es) (λ j i. k.same (base + j) (λ y. omega arith) (λ y. omega arith)) c' u' vs ws k.long h.0.ok),
+            rw m (ran_cells base cap c u xs ys (after xs ys c (decorate p s us)) [] (cells qs) vs ws a.filled.count a.filled.used h.0 (cells es)
+                (pieces_elsewhere base cap (cells qs) (cells es) (λ j i. k.same (base + j) (λ y. omega arith) (λ y. omega arith)) a.filled.count a.filled.used vs ws k.long h.0.ok)),
             rw h.1 at k.takes,
             k.set,
             k.view
-                ∙ ap (λ (t : List Entry). t ++ keep (nth (cells qs) w.top) (symbols_at (w.top + 2) n (cells qs)) []) (b.view ∙ o.view)
-                ∙ ap (λ (i : ℕ). words_in w (cells rs) ++ keep i (symbols_at (w.top + 2) n (cells qs)) []) (b.frequency ∙ o.frequency)
+                ∙ ap (λ (t : List Entry). t ++ keep (nth (cells qs) w.top) (symbols_at (w.top + 2) a.symbols (cells qs)) []) (b.view ∙ o.view)
+                ∙ ap (λ (i : ℕ). words_in w (cells rs) ++ keep i (symbols_at (w.top + 2) a.symbols (cells qs)) []) (b.frequency ∙ o.frequency)
                 ∙ ap (λ (l : List ℕ). words_in w (cells rs) ++ keep f l []) b.symbols,
           )
 
@@ -100,9 +114,10 @@ kept_end ps (g ∷ gs) = refl
 
 module _ (set : WordSet) (base cap c u : ℕ) (fs gs : List ℕ) (ds todo : List (List (List ℕ))) (w : WordSet) (xs ys qs vs ws : List ℕ) (c' u' : ℕ)
     (g : Entering set base cap c u fs gs ds todo w xs ys qs vs ws c' u') where
-  pub entering_end : (rs bytes : List ℕ) → fs ≡ numbers 8 bytes → todo ≡ [] → WordsDone (encoded.Done c' u' w) set base cap c u bytes ds rs xs ys qs vs ws
+  pub entering_end : (rs bytes : List ℕ) → fs ≡ numbers 8 bytes → todo ≡ [] → (r : Encoded) → r.filled.count ≡ c' → r.filled.used ≡ u' → r.words ≡ w
+      → WordsDone (Ok r) set base cap c u bytes ds rs xs ys qs vs ws
   unfolding WordsDone flat_map
-  entering_end rs bytes k e = (
+  entering_end rs bytes k e r i j l = rw (i, j, l) (
     rw e at g.ran,
     g.words,
     sym (append-nil (words_in w (cells qs)))
@@ -135,25 +150,27 @@ module _ (set : WordSet) (base cap c u : ℕ) (fs gs : List ℕ) (ds todo : List
     pub entering_place : w.starts + w.count < w.low
     entering_place = omega (arith, g.places)
 
-    module _ (a : Encoded) (qs₂ vs₂ ws₂ : List ℕ) (d : EntryDone a w base cap c' u' f p s us qs vs ws qs₂ vs₂ ws₂) where
-      pub entering_out : (rs bytes : List ℕ) → a ≡ encoded.NoRoom → WordsDone encoded.NoRoom set base cap c u bytes ds rs xs ys qs₂ vs₂ ws₂
+    module _ (qs₂ vs₂ ws₂ : List ℕ) where
+      pub entering_out : (rs bytes : List ℕ) (x : NoRoom) → EntryDone (Err x) w base cap c' u' f p s us qs vs ws qs₂ vs₂ ws₂ → (r : Result Encoded NoRoom) → IsErr r
+          → WordsDone r set base cap c u bytes ds rs xs ys qs₂ vs₂ ws₂
       unfolding EntryDone WordsDone
-      entering_out rs bytes q =
-          ran_exceeds base cap c u xs ys (after xs ys c (flat_map (λ d. d) ds)) (decorate p s us) (flat_map (λ d. d) rest) (cells qs) vs ws c' u' ahead (rw q at d)
+      entering_out rs bytes x d (Ok r) z = absurd cc
+      entering_out rs bytes x d (Err y) z =
+          ran_exceeds base cap c u xs ys (after xs ys c (flat_map (λ d. d) ds)) (decorate p s us) (flat_map (λ d. d) rest) (cells qs) vs ws c' u' ahead d
 
       here : map (number_of (after vs ws c' (decorate p s us))) (decorate p s us) ≡ map (number_of (after xs ys c (flat_map (λ d. d) ds))) (decorate p s us)
       here =
           sym (numbers-same (after vs ws c' (decorate p s us)) (flat_map (λ d. d) rest) (decorate p s us) (interns_have (decorate p s us) (pieces vs ws c')))
           ∙ ap (λ (ps : List (List ℕ)). map (number_of ps) (decorate p s us)) (sym (interns_append (pieces vs ws c') (decorate p s us) (flat_map (λ d. d) rest)) ∙ ahead.are)
 
-      pub entering_next : (c₂ u₂ : ℕ) (w₂ : WordSet) → a ≡ encoded.Done c₂ u₂ w₂ → Entering set base cap c u fs hs ds rest w₂ xs ys qs₂ vs₂ ws₂ c₂ u₂
+      pub entering_next : (r : Encoded) → EntryDone (Ok r) w base cap c' u' f p s us qs vs ws qs₂ vs₂ ws₂
+          → Entering set base cap c u fs hs ds rest r.words xs ys qs₂ vs₂ ws₂ r.filled.count r.filled.used
       unfolding EntryDone kept_with
-      entering_next c₂ u₂ w₂ q =
-          let h = rw q at d in
+      entering_next r h =
           let t = h.1 in
           let ps = after xs ys c (flat_map (λ d. d) ds) in
           record {
-            ran = ran_then base cap c u xs ys ps (decorate p s us) (flat_map (λ d. d) rest) (cells qs) vs ws c' u' ahead (cells qs₂) vs₂ ws₂ c₂ u₂ h.0;
+            ran = ran_then base cap c u xs ys ps (decorate p s us) (flat_map (λ d. d) rest) (cells qs) vs ws c' u' ahead (cells qs₂) vs₂ ws₂ r.filled.count r.filled.used h.0;
             slots = g.slots;
             words = h.2;
             view = ap (λ (l : List Entry). l ++ kept_with ps hs rest)

@@ -7,10 +7,10 @@ use Prim.Native.Nat.{ℕ, ◌+◌, ◌-◌, ◌<◌, ◌≤◌}
 use native.Mathlib.Omega.{arith}
 use lib.Dec.{eqb}
 use lib.ListN.{length, take, drop}
-use lib.Seq.{append_snoc, take_all}
+use lib.Seq.{append_snoc}
 use borrow.Author.Tests.{eq-eqb, ne_eqb}
 use Rattle.runs.specs.Parts.{nth, part, Kept}
-use Rattle.runs.proofs.Parts.{same_or_not, eqb_sym}
+use Rattle.runs.proofs.Parts.{same_or_not, eqb_sym, part_all}
 use Rattle.cells.specs.Cells.{cells}
 use Rattle.rfc3629.specs.Cut.{units_by}
 use Rattle.rule.specs.Spelling.{decorate}
@@ -24,41 +24,42 @@ use Rattle.intern.specs.Pieces.{pieces}
 use Rattle.intern.specs.Intern.{CanIntern, Answer, Gave}
 use Rattle.intern.specs.Many.{Ran}
 use Rattle.intern.specs.declared.Interned.{Interned}
-use Rattle.intern.specs.declared.Interned.TheVariants as found
+use Rattle.error.specs.declared.NoRoom.{NoRoom}
+use Rattle.vocab.specs.declared.Filled.{Filled}
+use Rattle.std.specs.Prelude.{Result, Ok, Err, IsErr}
 use Rattle.intern.proofs.Rooms.{kept-cells}
 use Rattle.intern.proofs.Many.{ran_start, ran_can, ran_cells, ran_next, ran_number, ran_lacks, ran_then, ran_exceeds}
 use Rattle.intern.proofs.Elsewhere.{pieces-kept}
 use Rattle.alphabet.specs.Seeds.{CanSeed}
-use Rattle.alphabet.specs.declared.Seeded.{Seeded}
-use Rattle.alphabet.specs.declared.Seeded.TheVariants as seeded
 use Rattle.word.specs.Layout.{symbols_at, Words, words_in}
 use Rattle.pushing.specs.Pushing.{Added}
 use Rattle.word.specs.declared.WordSet.{WordSet}
 use Rattle.word.proofs.Sets.{words-kept, corpus-kept, symbols_kept}
 use Rattle.word.proofs.Views.{symbols_none}
 use Rattle.encoding.specs.Encoding.{after, UnitDone, WordDone}
-use Rattle.encoding.specs.declared.Worded.TheVariants as worded
+use Rattle.encoding.specs.declared.Worded.{Worded}
 
 -- ONE UNIT
 
-module _ (w : WordSet) (n base cap c u : ℕ) (s rs xs ys qs vs ws : List ℕ) (a : Interned) (can : CanIntern base cap c u (cells rs) xs ys) (set : Words w (cells rs))
-    (room : w.top + 2 + n < base) (g : Answer a base cap c u s rs xs ys qs vs ws) where
+module _ (w : WordSet) (n base cap c u : ℕ) (s rs xs ys qs vs ws : List ℕ) (can : CanIntern base cap c u (cells rs) xs ys) (set : Words w (cells rs))
+    (room : w.top + 2 + n < base) where
   start : Ran base cap c u (after xs ys c (s ∷ [])) (s ∷ []) xs ys (cells rs) xs ys c u
   start = ran_start base cap c u xs ys (s ∷ []) (cells rs) can.ok
 
-  pub unit_out : a ≡ found.NoRoom → UnitDone seeded.NoRoom w n base cap c u s rs xs ys qs vs ws
+  pub unit_out : (x : NoRoom) → Answer (Err x) base cap c u s rs xs ys qs vs ws → (r : Result Filled NoRoom) → IsErr r → UnitDone r w n base cap c u s rs xs ys qs vs ws
   unfolding Answer UnitDone
-  unit_out q = let h = rw q at g in ran_lacks base cap c u xs ys (after xs ys c (s ∷ [])) s [] (cells rs) xs ys c u start h.0.more h.1
+  unit_out x h (Ok f) z = absurd cc
+  unit_out x h (Err y) z = ran_lacks base cap c u xs ys (after xs ys c (s ∷ [])) s [] (cells rs) xs ys c u start h.0.more h.1
 
-  module _ (k c' u' : ℕ) (q : a ≡ found.At k c' u') where
-    gave : Gave base cap c u s rs xs ys qs vs ws k c' u'
+  module _ (i : Interned) (g : Answer (Ok i) base cap c u s rs xs ys qs vs ws) where
+    gave : Gave base cap c u s rs xs ys qs vs ws i.number i.filled.count i.filled.used
     unfolding Answer
-    gave = rw q at g
+    gave = g
 
     kept : Kept base (base + cap) (cells rs) (cells qs)
     kept = kept-cells base (base + cap) rs qs gave.room
 
-    pub unit_number : k < 4294967296
+    pub unit_number : i.number < 4294967296
     unit_number = let h = gave.ok.known in omega (arith, gave.low, h.few, h.vacant)
 
     pub unit_set : Words w (cells qs)
@@ -67,29 +68,25 @@ module _ (w : WordSet) (n base cap c u : ℕ) (s rs xs ys qs vs ws : List ℕ) (
     pub unit_room : w.top + 2 + n < length (cells qs)
     unit_room = let h = gave.ok.known in omega (arith, h.room)
 
-    pub unit_done : (es : List ℕ) → Added w n k (cells qs) (cells es) → UnitDone (seeded.Done c' u') w n base cap c u s rs xs ys es vs ws
+    pub unit_done : (es : List ℕ) → Added w n i.number (cells qs) (cells es) → UnitDone (Ok i.filled) w n base cap c u s rs xs ys es vs ws
     unfolding UnitDone
     unit_done es d =
-        let r = ran_next base cap c u xs ys (after xs ys c (s ∷ [])) s [] (cells rs) xs ys c u start rs qs vs ws k c' u' gave in
-        let e = ran_number base cap c u xs ys (after xs ys c (s ∷ [])) s [] (cells rs) xs ys c u start rs qs vs ws k c' u' gave in
+        let r = ran_next base cap c u xs ys (after xs ys c (s ∷ [])) s [] (cells rs) xs ys c u start rs qs vs ws i.number i.filled.count i.filled.used gave in
+        let e = ran_number base cap c u xs ys (after xs ys c (s ∷ [])) s [] (cells rs) xs ys c u start rs qs vs ws i.number i.filled.count i.filled.used gave in
         let z = set.room in (
-          ran_cells base cap c u xs ys (after xs ys c (s ∷ [])) [] (cells qs) vs ws c' u' r (cells es)
-              (pieces-kept base cap c' u' (w.top + 2 + n) (w.top + 2 + n + 1) (cells qs) (cells es) vs ws d.kept (inl (omega arith)) gave.ok),
+          ran_cells base cap c u xs ys (after xs ys c (s ∷ [])) [] (cells qs) vs ws i.filled.count i.filled.used r (cells es)
+              (pieces-kept base cap i.filled.count i.filled.used (w.top + 2 + n) (w.top + 2 + n + 1) (cells qs) (cells es) vs ws d.kept (inl (omega arith)) gave.ok),
           record {
             set = d.set;
             view = d.view ∙ corpus-kept w (cells rs) (cells qs) base (base + cap) set kept (inr (omega arith));
             frequency = d.frequency ∙ kept.same w.top (inl (omega arith));
             symbols = d.symbols
-                ∙ ap (λ (l : List ℕ). l ++ (k ∷ [])) (symbols_kept (w.top + 2) n kept (omega (arith, can.ok.known.room)) (inl (omega arith)))
+                ∙ ap (λ (l : List ℕ). l ++ (i.number ∷ [])) (symbols_kept (w.top + 2) n kept (omega (arith, can.ok.known.room)) (inl (omega arith)))
                 ∙ ap (λ (j : ℕ). symbols_at (w.top + 2) n (cells rs) ++ (j ∷ [])) e;
           },
         )
 
 -- A UNIT'S MARKS, as the code takes them
-
-side-part : (there : Bool) (n : ℕ) (p : List ℕ) → n ≡ cond there (length p) 0 → take (n - 0) (drop 0 p) ≡ cond there p []
-side-part true n p e = take_all (n - 0) p (omega arith)
-side-part false n p e = let z : n - 0 ≡ 0 = omega arith in rw z
 
 flip : (b : Bool) (p : List ℕ) → cond (not b) p [] ≡ cond b [] p
 flip true p = refl
@@ -102,15 +99,15 @@ last_unit whole s at to r a b x =
     (λ e. eq-eqb r to e ∙ sym (eq-eqb 0 (length (units_by whole (part r (to - r) s))) (sym (ap length (last_units whole s r to (omega arith))))))
     (λ e. ne_eqb r to e ∙ sym (ne_eqb 0 (length (units_by whole (part r (to - r) s))) (λ q. let z = units_some whole s r to (omega (arith, x.inside)) b in omega arith)))
 
-pub unit_spelled : (p s words : List ℕ) (whole : Bool) (n at to r lead tail : ℕ) → at < to → to ≤ length words → Next whole words at to r
-    → lead ≡ cond (not (eqb n 0)) (length p) 0 → tail ≡ cond (eqb r to) (length s) 0
-    → take (lead - 0) (drop 0 p) ++ (take (r - at) (drop at words) ++ take (tail - 0) (drop 0 s))
+pub unit_spelled : (p s words lead tail : List ℕ) (whole : Bool) (n at to r : ℕ) → at < to → to ≤ length words → Next whole words at to r
+    → lead ≡ cond (not (eqb n 0)) p [] → tail ≡ cond (eqb r to) s []
+    → lead ++ (take (r - at) (drop at words) ++ tail)
     ≡ dressed p s (eqb 0 n) (eqb 0 (length (units_by whole (part r (to - r) words)))) (part at (r - at) words)
 unfolding part
-unit_spelled p s words whole n at to r lead tail a b x e f =
-    dressed_of p s (take (lead - 0) (drop 0 p)) (take (tail - 0) (drop 0 s)) (take (r - at) (drop at words)) (eqb 0 n) (eqb 0 (length (units_by whole (part r (to - r) words))))
-    (side-part (not (eqb n 0)) lead p e ∙ flip (eqb n 0) p ∙ ap (λ (b : Bool). cond b [] p) (eqb_sym n 0))
-    (side-part (eqb r to) tail s f ∙ ap (λ (b : Bool). cond b s []) (last_unit whole words at to r a b x))
+unit_spelled p s words lead tail whole n at to r a b x e f =
+    dressed_of p s lead tail (take (r - at) (drop at words)) (eqb 0 n) (eqb 0 (length (units_by whole (part r (to - r) words))))
+    (e ∙ flip (eqb n 0) p ∙ ap (λ (b : Bool). cond b [] p) (eqb_sym n 0))
+    (f ∙ ap (λ (b : Bool). cond b s []) (last_unit whole words at to r a b x))
 
 -- A WORD: n units are done, and `todo` is to come
 
@@ -150,10 +147,11 @@ module _ (w : WordSet) (base cap c u : ℕ) (p s : List ℕ) (us todo : List (Li
   pub wording_set : Words w (cells qs)
   wording_set = g.set
 
-  pub wording_end : todo ≡ [] → WordDone (worded.Done c' u' n) w base cap c u p s us rs xs ys qs vs ws
+  pub wording_end : todo ≡ [] → (r : Worded) → r.filled.count ≡ c' → r.filled.used ≡ u' → r.symbols ≡ n → WordDone (Ok r) w base cap c u p s us rs xs ys qs vs ws
   unfolding WordDone
-  wording_end e =
-      let none : dressed_from p s (eqb 0 n) todo ≡ [] = ap (dressed_from p s (eqb 0 n)) e ∙ dressed_none p s (eqb 0 n) in
+  wording_end e r j l m =
+      rw (j, l, m)
+      (let none : dressed_from p s (eqb 0 n) todo ≡ [] = ap (dressed_from p s (eqb 0 n)) e ∙ dressed_none p s (eqb 0 n) in
       let k = ap length e in (
         rw none at g.ran,
         omega (arith, g.count),
@@ -164,23 +162,24 @@ module _ (w : WordSet) (base cap c u : ℕ) (p s : List ℕ) (us todo : List (Li
           symbols = sym (append-nil (symbols_at (w.top + 2) n (cells qs)))
               ∙ (rw none at g.symbols);
         },
-      )
+      ))
 
   module _ (v : List ℕ) (rest : List (List ℕ)) (e : todo ≡ v ∷ rest) where
     pub wording_room : w.top + 2 + n < base
     wording_room = let k = ap length e in omega (arith, g.count, g.room)
 
-    module _ (t : List ℕ) (f : t ≡ dressed p s (eqb 0 n) (eqb 0 (length rest)) v) (a : Seeded) (qs₂ vs₂ ws₂ : List ℕ)
-        (d : UnitDone a w n base cap c' u' t qs vs ws qs₂ vs₂ ws₂) where
+    module _ (t : List ℕ) (f : t ≡ dressed p s (eqb 0 n) (eqb 0 (length rest)) v) (qs₂ vs₂ ws₂ : List ℕ) where
       ahead : dressed_from p s (eqb 0 n) todo ≡ t ∷ dressed_from p s false rest
       ahead = ap (dressed_from p s (eqb 0 n)) e ∙ dressed_next p s (eqb 0 n) v rest ∙ ap (λ (l : List ℕ). l ∷ dressed_from p s false rest) (sym f)
 
       ran : Ran base cap c u (after xs ys c (decorate p s us)) ((t ∷ []) ++ dressed_from p s false rest) xs ys (cells qs) vs ws c' u'
       ran = rw ahead at g.ran
 
-      pub wording_out : a ≡ seeded.NoRoom → WordDone worded.NoRoom w base cap c u p s us rs xs ys qs₂ vs₂ ws₂
+      pub wording_out : (x : NoRoom) → UnitDone (Err x) w n base cap c' u' t qs vs ws qs₂ vs₂ ws₂ → (r : Result Worded NoRoom) → IsErr r
+          → WordDone r w base cap c u p s us rs xs ys qs₂ vs₂ ws₂
       unfolding UnitDone WordDone
-      wording_out q = ran_exceeds base cap c u xs ys (after xs ys c (decorate p s us)) (t ∷ []) (dressed_from p s false rest) (cells qs) vs ws c' u' ran (rw q at d)
+      wording_out x d (Ok r) z = absurd cc
+      wording_out x d (Err y) z = ran_exceeds base cap c u xs ys (after xs ys c (decorate p s us)) (t ∷ []) (dressed_from p s false rest) (cells qs) vs ws c' u' ran d
 
       -- its number among the pieces of this moment is its number among those of the whole word
       number : number_of (after vs ws c' (t ∷ [])) t ≡ number_of (after xs ys c (decorate p s us)) t
@@ -188,15 +187,15 @@ module _ (w : WordSet) (base cap c u : ℕ) (p s : List ℕ) (us todo : List (Li
           sym (interns_stay t (dressed_from p s false rest) (intern (pieces vs ws c') t) (has_intern t (pieces vs ws c'))).1
           ∙ ap (λ (ps : List (List ℕ)). number_of ps t) ran.are
 
-      pub wording_next : (c₂ u₂ : ℕ) → a ≡ seeded.Done c₂ u₂ → Wording w base cap c u p s us rest rs xs ys qs₂ vs₂ ws₂ (n + 1) c₂ u₂
+      pub wording_next : (f₂ : Filled) → UnitDone (Ok f₂) w n base cap c' u' t qs vs ws qs₂ vs₂ ws₂
+          → Wording w base cap c u p s us rest rs xs ys qs₂ vs₂ ws₂ (n + 1) f₂.count f₂.used
       unfolding UnitDone
-      wording_next c₂ u₂ q =
-          let h = rw q at d in
+      wording_next f₂ h =
           let o = h.1 in
           let later : eqb 0 (n + 1) ≡ false = ne_eqb 0 (n + 1) (λ z. omega arith) in
           let k = ap length e in
           record {
-            ran = rw later (ran_then base cap c u xs ys (after xs ys c (decorate p s us)) (t ∷ []) (dressed_from p s false rest) (cells qs) vs ws c' u' ran (cells qs₂) vs₂ ws₂ c₂ u₂ h.0);
+            ran = rw later (ran_then base cap c u xs ys (after xs ys c (decorate p s us)) (t ∷ []) (dressed_from p s false rest) (cells qs) vs ws c' u' ran (cells qs₂) vs₂ ws₂ f₂.count f₂.used h.0);
             slots = g.slots;
             set = o.set;
             view = o.view ∙ g.view;
@@ -212,11 +211,18 @@ module _ (w : WordSet) (base cap c u : ℕ) (p s : List ℕ) (us todo : List (Li
             room = g.room;
           }
 
--- the same by places in the run of words
-module _ (w : WordSet) (base cap c u : ℕ) (p s : List ℕ) (us : List (List ℕ)) (words : List ℕ) (whole : Bool) (at to : ℕ) (rs xs ys qs vs ws : List ℕ) (n c' u' : ℕ)
-    (g : Wording w base cap c u p s us (units_by whole (part at (to - at) words)) rs xs ys qs vs ws n c' u') where
-  pub place_end : to ≤ at → WordDone (worded.Done c' u' n) w base cap c u p s us rs xs ys qs vs ws
-  place_end h = wording_end w base cap c u p s us (units_by whole (part at (to - at) words)) rs xs ys qs vs ws n c' u' g (last_units whole words at to h)
+-- the same by places in the word
+pub word_start : (w : WordSet) (base cap c u : ℕ) (p s word : List ℕ) (whole : Bool) (rs xs ys : List ℕ)
+    → CanSeed base cap c u (decorate p s (units_by whole word)) (cells rs) xs ys → Words w (cells rs) → w.top + 2 + length (units_by whole word) ≤ base
+    → Wording w base cap c u p s (units_by whole word) (units_by whole (part 0 (length word - 0) word)) rs xs ys rs xs ys 0 c u
+word_start w base cap c u p s word whole rs xs ys can set room =
+    let e : part 0 (length word - 0) word ≡ word = part_all (length word - 0) word (omega arith) in
+    rw e (wording_start w base cap c u p s (units_by whole word) rs xs ys can set room)
+
+module _ (w : WordSet) (base cap c u : ℕ) (p s : List ℕ) (us : List (List ℕ)) (words : List ℕ) (whole : Bool) (at to : ℕ) (rs xs ys qs vs ws : List ℕ) (n : ℕ) (f : Filled)
+    (g : Wording w base cap c u p s us (units_by whole (part at (to - at) words)) rs xs ys qs vs ws n f.count f.used) where
+  pub place_end : to ≤ at → (r : Worded) → r.filled.count ≡ f.count → r.filled.used ≡ f.used → r.symbols ≡ n → WordDone (Ok r) w base cap c u p s us rs xs ys qs vs ws
+  place_end h = wording_end w base cap c u p s us (units_by whole (part at (to - at) words)) rs xs ys qs vs ws n f.count f.used g (last_units whole words at to h)
 
   module _ (a : at < to) (b : to ≤ length words) (r : ℕ) (x : Next whole words at to r) where
     step : units_by whole (part at (to - at) words) ≡ part at (r - at) words ∷ units_by whole (part r (to - r) words)
@@ -224,16 +230,17 @@ module _ (w : WordSet) (base cap c u : ℕ) (p s : List ℕ) (us : List (List �
 
     pub place_room : w.top + 2 + n < base
     place_room =
-        wording_room w base cap c u p s us (units_by whole (part at (to - at) words)) rs xs ys qs vs ws n c' u' g (part at (r - at) words) (units_by whole (part r (to - r) words)) step
+        wording_room w base cap c u p s us (units_by whole (part at (to - at) words)) rs xs ys qs vs ws n f.count f.used g (part at (r - at) words) (units_by whole (part r (to - r) words)) step
 
-    module _ (lead tail : ℕ) (e : lead ≡ cond (not (eqb n 0)) (length p) 0) (f : tail ≡ cond (eqb r to) (length s) 0) (d : Seeded) (qs₂ vs₂ ws₂ : List ℕ)
-        (h : UnitDone d w n base cap c' u' (take (lead - 0) (drop 0 p) ++ (take (r - at) (drop at words) ++ take (tail - 0) (drop 0 s))) qs vs ws qs₂ vs₂ ws₂) where
-      pub place_next : (c₂ u₂ : ℕ) → d ≡ seeded.Done c₂ u₂ → Wording w base cap c u p s us (units_by whole (part r (to - r) words)) rs xs ys qs₂ vs₂ ws₂ (n + 1) c₂ u₂
+    module _ (lead tail : List ℕ) (e : lead ≡ cond (not (eqb n 0)) p []) (o : tail ≡ cond (eqb r to) s []) (qs₂ vs₂ ws₂ : List ℕ) where
+      pub place_next : (f₂ : Filled) → UnitDone (Ok f₂) w n base cap f.count f.used (lead ++ (take (r - at) (drop at words) ++ tail)) qs vs ws qs₂ vs₂ ws₂
+          → Wording w base cap c u p s us (units_by whole (part r (to - r) words)) rs xs ys qs₂ vs₂ ws₂ (n + 1) f₂.count f₂.used
       place_next =
-          wording_next w base cap c u p s us (units_by whole (part at (to - at) words)) rs xs ys qs vs ws n c' u' g (part at (r - at) words) (units_by whole (part r (to - r) words)) step
-          (take (lead - 0) (drop 0 p) ++ (take (r - at) (drop at words) ++ take (tail - 0) (drop 0 s))) (unit_spelled p s words whole n at to r lead tail a b x e f) d qs₂ vs₂ ws₂ h
+          wording_next w base cap c u p s us (units_by whole (part at (to - at) words)) rs xs ys qs vs ws n f.count f.used g (part at (r - at) words) (units_by whole (part r (to - r) words)) step
+          (lead ++ (take (r - at) (drop at words) ++ tail)) (unit_spelled p s words lead tail whole n at to r a b x e o) qs₂ vs₂ ws₂
 
-      pub place-out : d ≡ seeded.NoRoom → WordDone worded.NoRoom w base cap c u p s us rs xs ys qs₂ vs₂ ws₂
+      pub place-out : (y : NoRoom) → UnitDone (Err y) w n base cap f.count f.used (lead ++ (take (r - at) (drop at words) ++ tail)) qs vs ws qs₂ vs₂ ws₂
+          → (z : Result Worded NoRoom) → IsErr z → WordDone z w base cap c u p s us rs xs ys qs₂ vs₂ ws₂
       place-out =
-          wording_out w base cap c u p s us (units_by whole (part at (to - at) words)) rs xs ys qs vs ws n c' u' g (part at (r - at) words) (units_by whole (part r (to - r) words)) step
-          (take (lead - 0) (drop 0 p) ++ (take (r - at) (drop at words) ++ take (tail - 0) (drop 0 s))) (unit_spelled p s words whole n at to r lead tail a b x e f) d qs₂ vs₂ ws₂ h
+          wording_out w base cap c u p s us (units_by whole (part at (to - at) words)) rs xs ys qs vs ws n f.count f.used g (part at (r - at) words) (units_by whole (part r (to - r) words)) step
+          (lead ++ (take (r - at) (drop at words) ++ tail)) (unit_spelled p s words lead tail whole n at to r a b x e o) qs₂ vs₂ ws₂

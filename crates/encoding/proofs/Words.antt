@@ -3,8 +3,9 @@ use mathlib.Core.Path.{◌≡◌, refl, sym, ap, ◌∙◌}
 use mathlib.Core.List.{List, [], ◌∷◌, ◌++◌, map, flat_map}
 use Prim.Native.Nat.{ℕ, ◌+◌, ◌*◌, ◌-◌, ◌/◌, ◌<◌, ◌≤◌}
 use native.Mathlib.Omega.{arith}
-use lib.ListN.{length}
+use lib.ListN.{length, take, drop}
 use Rattle.runs.specs.Parts.{nth, part}
+use Rattle.runs.proofs.Parts.{part_lent}
 use Rattle.numbers.specs.Little.{load, numbers}
 use Rattle.cells.specs.Cells.{cells}
 use Rattle.rule.specs.Shapes.{parts}
@@ -21,7 +22,8 @@ use Rattle.word.specs.declared.WordSet.{WordSet}
 use Rattle.word.proofs.Views.{corpus_none}
 use Rattle.encoding.specs.Encoding.{all_decorated, decorated_units, after, EntryDone, Fits, WordsDone}
 use Rattle.encoding.specs.declared.Encoded.{Encoded}
-use Rattle.encoding.specs.declared.Encoded.TheVariants as encoded
+use Rattle.error.specs.declared.NoRoom.{NoRoom}
+use Rattle.std.specs.Prelude.{Result, Ok, Err, IsErr}
 use Rattle.encoding.proofs.Entering.{Entering, entering_end, entering_can, entering_room, entering_place, entering_out, entering_next}
 
 -- the decorated words from the i-th on
@@ -78,44 +80,47 @@ module _ (set : WordSet) (base cap c u seeding : ℕ) (p s ws es fs rs xs ys : L
       go gs todo e f = rw (← e, ← f) begin
 
 -- A TURN, AND THE WAYS OUT
-module _ (set : WordSet) (base cap c u : ℕ) (gs : List ℕ) (ds : List (List (List ℕ))) (seeding : ℕ) (p s ws es fs : List ℕ) (last i : ℕ) (w : WordSet) (xs ys qs vs zs : List ℕ) (c' u' : ℕ)
-    (g : Entering set base cap c u gs (numbers_from 8 fs i) ds (words_from seeding p s ws es last i) w xs ys qs vs zs c' u') where
-  pub words_end : (rs : List ℕ) → gs ≡ numbers 8 fs → length es / 4 ≤ i → WordsDone (encoded.Done c' u' w) set base cap c u fs ds rs xs ys qs vs zs
+module _ (set : WordSet) (base cap c u : ℕ) (gs : List ℕ) (ds : List (List (List ℕ))) (seeding : ℕ) (p s ws es fs : List ℕ) (last i : ℕ) (r : Encoded) (xs ys qs vs zs : List ℕ)
+    (g : Entering set base cap c u gs (numbers_from 8 fs i) ds (words_from seeding p s ws es last i) r.words xs ys qs vs zs r.filled.count r.filled.used) where
+  pub words_end : (rs : List ℕ) → gs ≡ numbers 8 fs → length es / 4 ≤ i → WordsDone (Ok r) set base cap c u fs ds rs xs ys qs vs zs
   words_end rs k h =
-      entering_end set base cap c u gs (numbers_from 8 fs i) ds (words_from seeding p s ws es last i) w xs ys qs vs zs c' u' g rs fs k (words_none seeding p s ws es i last h)
+      entering_end set base cap c u gs (numbers_from 8 fs i) ds (words_from seeding p s ws es last i) r.words xs ys qs vs zs r.filled.count r.filled.used g rs fs k (words_none seeding p s ws es i last h) r refl refl refl
 
   module _ (h : i < length es / 4) (same : length es / 4 ≡ length fs / 8) (e f : ℕ) (k : e ≡ nth (numbers 4 es) i) (l : f ≡ load 8 fs (i * 8)) where
-    step : words_from seeding p s ws es last i ≡ decorate p s (units seeding (part last (e - last) ws)) ∷ words_from seeding p s ws es e (i + 1)
-    step = words_step seeding p s ws es i last e h k
+    step : words_from seeding p s ws es last i ≡ decorate p s (units seeding (take (e - last) (drop last ws))) ∷ words_from seeding p s ws es e (i + 1)
+    step =
+        words_step seeding p s ws es i last e h k
+        ∙ ap (λ (v : List ℕ). decorate p s (units seeding v) ∷ words_from seeding p s ws es e (i + 1)) (sym (part_lent last e ws))
 
     first : numbers_from 8 fs i ≡ f ∷ numbers_from 8 fs (i + 1)
     first =
         numbers_step 8 fs i (omega arith)
         ∙ ap (λ (n : ℕ). n ∷ numbers_from 8 fs (i + 1)) (sym (number_load 8 fs i f (omega arith) l))
 
-    pub words_can : CanSeed base cap c' u' (decorate p s (units seeding (part last (e - last) ws))) (cells qs) vs zs
+    pub words_can : CanSeed base cap r.filled.count r.filled.used (decorate p s (units seeding (take (e - last) (drop last ws)))) (cells qs) vs zs
     words_can =
-        entering_can set base cap c u gs (numbers_from 8 fs i) ds (words_from seeding p s ws es last i) w xs ys qs vs zs c' u' g f (numbers_from 8 fs (i + 1))
-        (units seeding (part last (e - last) ws)) p s (words_from seeding p s ws es e (i + 1)) step first
+        entering_can set base cap c u gs (numbers_from 8 fs i) ds (words_from seeding p s ws es last i) r.words xs ys qs vs zs r.filled.count r.filled.used g f (numbers_from 8 fs (i + 1))
+        (units seeding (take (e - last) (drop last ws))) p s (words_from seeding p s ws es e (i + 1)) step first
 
-    pub words_room : w.top + 2 + length (units seeding (part last (e - last) ws)) ≤ base
+    pub words_room : r.words.top + 2 + length (units seeding (take (e - last) (drop last ws))) ≤ base
     words_room =
-        entering_room set base cap c u gs (numbers_from 8 fs i) ds (words_from seeding p s ws es last i) w xs ys qs vs zs c' u' g f (numbers_from 8 fs (i + 1))
-        (units seeding (part last (e - last) ws)) p s (words_from seeding p s ws es e (i + 1)) step first
+        entering_room set base cap c u gs (numbers_from 8 fs i) ds (words_from seeding p s ws es last i) r.words xs ys qs vs zs r.filled.count r.filled.used g f (numbers_from 8 fs (i + 1))
+        (units seeding (take (e - last) (drop last ws))) p s (words_from seeding p s ws es e (i + 1)) step first
 
-    pub words-place : w.starts + w.count < w.low
+    pub words-place : r.words.starts + r.words.count < r.words.low
     words-place =
-        entering_place set base cap c u gs (numbers_from 8 fs i) ds (words_from seeding p s ws es last i) w xs ys qs vs zs c' u' g f (numbers_from 8 fs (i + 1))
-        (units seeding (part last (e - last) ws)) p s (words_from seeding p s ws es e (i + 1)) step first
+        entering_place set base cap c u gs (numbers_from 8 fs i) ds (words_from seeding p s ws es last i) r.words xs ys qs vs zs r.filled.count r.filled.used g f (numbers_from 8 fs (i + 1))
+        (units seeding (take (e - last) (drop last ws))) p s (words_from seeding p s ws es e (i + 1)) step first
 
-    module _ (a : Encoded) (qs₂ vs₂ zs₂ : List ℕ) (d : EntryDone a w base cap c' u' f p s (units seeding (part last (e - last) ws)) qs vs zs qs₂ vs₂ zs₂) where
-      pub words-out : (rs : List ℕ) → a ≡ encoded.NoRoom → WordsDone encoded.NoRoom set base cap c u fs ds rs xs ys qs₂ vs₂ zs₂
+    module _ (qs₂ vs₂ zs₂ : List ℕ) where
+      pub words-out : (rs : List ℕ) (x : NoRoom) → EntryDone (Err x) r.words base cap r.filled.count r.filled.used f p s (units seeding (take (e - last) (drop last ws))) qs vs zs qs₂ vs₂ zs₂
+          → (y : Result Encoded NoRoom) → IsErr y → WordsDone y set base cap c u fs ds rs xs ys qs₂ vs₂ zs₂
       words-out rs =
-          entering_out set base cap c u gs (numbers_from 8 fs i) ds (words_from seeding p s ws es last i) w xs ys qs vs zs c' u' g f (numbers_from 8 fs (i + 1))
-          (units seeding (part last (e - last) ws)) p s (words_from seeding p s ws es e (i + 1)) step first a qs₂ vs₂ zs₂ d rs fs
+          entering_out set base cap c u gs (numbers_from 8 fs i) ds (words_from seeding p s ws es last i) r.words xs ys qs vs zs r.filled.count r.filled.used g f (numbers_from 8 fs (i + 1))
+          (units seeding (take (e - last) (drop last ws))) p s (words_from seeding p s ws es e (i + 1)) step first qs₂ vs₂ zs₂ rs fs
 
-      pub words_next : (c₂ u₂ : ℕ) (w₂ : WordSet) → a ≡ encoded.Done c₂ u₂ w₂
-          → Entering set base cap c u gs (numbers_from 8 fs (i + 1)) ds (words_from seeding p s ws es e (i + 1)) w₂ xs ys qs₂ vs₂ zs₂ c₂ u₂
+      pub words_next : (r₂ : Encoded) → EntryDone (Ok r₂) r.words base cap r.filled.count r.filled.used f p s (units seeding (take (e - last) (drop last ws))) qs vs zs qs₂ vs₂ zs₂
+          → Entering set base cap c u gs (numbers_from 8 fs (i + 1)) ds (words_from seeding p s ws es e (i + 1)) r₂.words xs ys qs₂ vs₂ zs₂ r₂.filled.count r₂.filled.used
       words_next =
-          entering_next set base cap c u gs (numbers_from 8 fs i) ds (words_from seeding p s ws es last i) w xs ys qs vs zs c' u' g f (numbers_from 8 fs (i + 1))
-          (units seeding (part last (e - last) ws)) p s (words_from seeding p s ws es e (i + 1)) step first a qs₂ vs₂ zs₂ d
+          entering_next set base cap c u gs (numbers_from 8 fs i) ds (words_from seeding p s ws es last i) r.words xs ys qs vs zs r.filled.count r.filled.used g f (numbers_from 8 fs (i + 1))
+          (units seeding (take (e - last) (drop last ws))) p s (words_from seeding p s ws es e (i + 1)) step first qs₂ vs₂ zs₂

@@ -4,222 +4,175 @@
 // The set lies in the cells below the table of spellings, so that neither disturbs the other.
 #![tactic(auto)]
 
-ghost use Rattle.std.specs.Prelude.{◌≡◌, true, cond, ◌++◌, ◌+◌, ◌-◌, ◌*◌, ◌/◌, ◌<◌, ◌≤◌, length};
-ghost use Rattle.runs.specs.Parts.{part};
+ghost use Rattle.std.specs.Prelude.{◌≡◌, true, cond, [], ◌+◌, ◌/◌, ◌<◌, ◌≤◌, length};
 ghost use Rattle.cells.specs.Cells.{cells};
 ghost use Rattle.rfc3629.specs.Cut.{units_by};
 ghost use Rattle.rule.specs.Shapes.{shaped};
 ghost use Rattle.rule.specs.Table.{units};
 ghost use Rattle.rule.specs.Spelling.{decorate};
+ghost use Rattle.intern.specs.Spelled.{spelled};
 ghost use Rattle.intern.specs.Intern.{CanIntern};
 ghost use Rattle.alphabet.specs.Seeds.{CanSeed};
 ghost use Rattle.word.specs.Layout.{Words};
-ghost use Rattle.encoding.specs.Encoding.{decorated_units, all_decorated, UnitDone, WordDone, EntryDone, WordsDone, Fits};
+ghost use Rattle.encoding.specs.Encoding.{decorated_units, all_decorated, Fits};
+ghost use Rattle.encoding.specs.Encoding.{UnitDone, WordDone, EntryDone, WordsDone};
 
-use alphabet::Seeded;
-use intern::Interned;
+use cells::Ring;
+use error::NoRoom;
+use spells::Spelling;
+use table::Table;
 use text::Seeding;
+use vocab::Filled;
 use word::WordSet;
 
 // Interns a unit with its decoration, and adds its number to the open word, which has n symbols.
+// Stays: the rooms apart, as in intern::intern.
 fn seed_unit(
     room: &mut [u8],
     w: WordSet,
     n: usize,
-    base: usize,
-    cap: usize,
+    ring: Ring,
     pieces: &mut [u8],
     ends: &mut [u8],
-    count: usize,
-    used: usize,
-    prefix: &[u8],
-    unit: &[u8],
-    suffix: &[u8],
-) -> Seeded
-    requires can_intern { CanIntern base cap count used (cells room.old) pieces.old ends.old }
-    requires words { Words w (cells room.old) × (w.top + 2 + n < base) }
-    ensures { UnitDone result w n base cap count used (prefix.now ++ (unit.now ++ suffix.now))
+    filled: Filled,
+    spelling: Spelling,
+) -> Result<Filled, NoRoom>
+    requires can_intern { CanIntern ring.base ring.cap filled.count filled.used (cells room.old) pieces.old ends.old }
+    requires words { Words w (cells room.old) × (w.top + 2 + n < ring.base) }
+    ensures { UnitDone result w n ring.base ring.cap filled.count filled.used (spelled spelling.entry)
         room.old pieces.old ends.old room.new pieces.new ends.new }
 {
-    let r = intern::intern(
-        room, base, cap, pieces, ends, count, used, prefix, unit, suffix,
-    );
-    match r {
-        Interned::At(k, m, u) => {
-            pushing::add(room, w, n, k as u32);
-            Seeded::Done(m, u)
-        }
-        Interned::NoRoom => Seeded::NoRoom,
-    }
+    let interned = intern::intern(room, ring, pieces, ends, filled, spelling)?;
+    pushing::add(room, w, n, interned.number as u32);
+    Ok(interned.filled)
 }
 
-// The length of a mark that is there, or 0.
-fn side(there: bool, n: usize) -> usize
-    ensures { (result ≡ cond there n 0) × (result ≤ n) }
+// A mark where it is there, and nothing where it is not.
+// Stays: a test beside a mark, no Option: a Spelling takes the empty part where no mark is (`decorate`).
+fn side(there: bool, mark: &[u8]) -> &[u8]
+    ensures { result.now ≡ cond there mark.now [] }
 {
-    if there { n } else { 0 }
+    if there { mark } else { &[] }
 }
 
-// How many pieces and bytes there are now, and how many symbols a word has; or that a seed has no
-// place.
+// How far the runs are filled now, and how many symbols a word has.
 #[derive(Clone, Copy)]
-pub enum Worded {
-    Done(usize, usize, usize),
-    NoRoom,
+struct Worded {
+    filled: Filled,
+    symbols: usize,
 }
 
-// Interns the units of the word from `from` to `to`, and adds their numbers to the open word, which
-// has none yet.
+// Interns the units of a word, which is cut as `whole` tells, and adds their numbers to the open
+// word, which has none yet.
+// Stays: the rooms apart, as in intern::intern.
 fn seed_word(
     room: &mut [u8],
     w: WordSet,
-    base: usize,
-    cap: usize,
+    ring: Ring,
     pieces: &mut [u8],
     ends: &mut [u8],
-    count: usize,
-    used: usize,
-    words: &[u8],
-    from: usize,
-    to: usize,
+    filled: Filled,
+    word: &[u8],
     whole: bool,
-    prefix: &[u8],
-    suffix: &[u8],
-) -> Worded
-    requires can_seed { CanSeed base cap count used (decorate prefix.now suffix.now (units_by whole (part from (to - from) words.now)))
-        (cells room.old) pieces.old ends.old }
-    requires from_le_to { (from ≤ to) × (to ≤ length words.now) × Words w (cells room.old)
-        × (w.top + 2 + length (units_by whole (part from (to - from) words.now)) ≤ base) }
-    ensures { WordDone result w base cap count used prefix.now suffix.now (units_by whole (part from (to - from) words.now))
+    t: Table,
+) -> Result<Worded, NoRoom>
+    requires can_seed { CanSeed ring.base ring.cap filled.count filled.used
+        (decorate t.prefix.now t.suffix.now (units_by whole word.now)) (cells room.old) pieces.old ends.old }
+    requires words { Words w (cells room.old) × (w.top + 2 + length (units_by whole word.now) ≤ ring.base) }
+    ensures { WordDone result w ring.base ring.cap filled.count filled.used
+        t.entry.prefix.now t.entry.suffix.now (units_by whole word.now)
         room.old pieces.old ends.old room.new pieces.new ends.new }
 {
-    let mut m = count;
-    let mut u = used;
-    let mut at = from;
+    let mut so_far = filled;
+    let mut at = 0;
     let mut n = 0;
-    while at < to {
-        let end = text::next_unit(words, at, to, whole);
-        let lead = side(n != 0, prefix.len());
-        let tail = side(end == to, suffix.len());
-        let r = seed_unit(
-            room,
-            w,
-            n,
-            base,
-            cap,
-            pieces,
-            ends,
-            m,
-            u,
-            &prefix[0..lead],
-            &words[at..end],
-            &suffix[0..tail],
-        );
-        match r {
-            Seeded::Done(x, y) => {
-                m = x;
-                u = y;
-                at = end;
-                n += 1;
-            }
-            Seeded::NoRoom => return Worded::NoRoom,
-        }
+    while at < word.len() {
+        let end = text::next_unit(word, at, whole);
+        let prefix = side(n != 0, t.prefix);
+        let suffix = side(end == word.len(), t.suffix);
+        let spelling = Spelling {
+            prefix,
+            unit: &word[at..end],
+            suffix,
+        };
+        so_far = seed_unit(room, w, n, ring, pieces, ends, so_far, spelling)?;
+        at = end;
+        n += 1;
     }
-    Worded::Done(m, u, n)
+    Ok(Worded {
+        filled: so_far,
+        symbols: n,
+    })
 }
 
-// How many pieces and bytes there are now, with the kept words; or that a seed has no place.
+// How far the runs are filled now, and the words kept.
 #[derive(Clone, Copy)]
-pub enum Encoded {
-    Done(usize, usize, WordSet),
-    NoRoom,
+pub struct Encoded {
+    pub filled: Filled,
+    pub words: WordSet,
 }
 
-// Interns the units of the word from `from` to `to`, and makes it a word of the set if it has two
-// units or more.
+// Interns the units of a word, and makes it a word of the set if it has two units or more.
+// Stays: the rooms apart, as in intern::intern.
 fn seed_entry(
     room: &mut [u8],
-    w: WordSet,
-    base: usize,
-    cap: usize,
+    so_far: Encoded,
+    ring: Ring,
     pieces: &mut [u8],
     ends: &mut [u8],
-    count: usize,
-    used: usize,
-    words: &[u8],
-    from: usize,
-    to: usize,
+    word: &[u8],
     frequency: u64,
-    seeding: u64,
-    prefix: &[u8],
-    suffix: &[u8],
-) -> Encoded
-    requires can_seed { CanSeed base cap count used (decorate prefix.now suffix.now (units seeding (part from (to - from) words.now)))
-        (cells room.old) pieces.old ends.old }
-    requires from_le_to { (from ≤ to) × (to ≤ length words.now) × Words w (cells room.old)
-        × (w.top + 2 + length (units seeding (part from (to - from) words.now)) ≤ base) × (w.starts + w.count < w.low) }
-    ensures { EntryDone result w base cap count used frequency prefix.now suffix.now (units seeding (part from (to - from) words.now))
+    t: Table,
+) -> Result<Encoded, NoRoom>
+    requires can_seed { CanSeed ring.base ring.cap so_far.filled.count so_far.filled.used
+        (decorate t.prefix.now t.suffix.now (units t.seeding word.now)) (cells room.old) pieces.old ends.old }
+    requires words { Words so_far.words (cells room.old)
+        × (so_far.words.top + 2 + length (units t.seeding word.now) ≤ ring.base)
+        × (so_far.words.starts + so_far.words.count < so_far.words.low) }
+    ensures { EntryDone result so_far.words ring.base ring.cap so_far.filled.count so_far.filled.used
+        frequency t.entry.prefix.now t.entry.suffix.now (units t.entry.seeding word.now)
         room.old pieces.old ends.old room.new pieces.new ends.new }
 {
+    let w = so_far.words;
     pushing::open(room, w, frequency);
-    let whole = text::whole(words, from, to, Seeding::from_number(seeding));
-    let r = seed_word(
-        room, w, base, cap, pieces, ends, count, used, words, from, to, whole, prefix, suffix,
-    );
-    match r {
-        Worded::Done(m, u, n) => {
-            let more = pushing::push(room, w, n);
-            Encoded::Done(m, u, more)
-        }
-        Worded::NoRoom => Encoded::NoRoom,
-    }
+    let whole = text::whole(word, Seeding::from_number(t.seeding));
+    let worded = seed_word(room, w, ring, pieces, ends, so_far.filled, word, whole, t)?;
+    let words = pushing::push(room, w, worded.symbols);
+    Ok(Encoded {
+        filled: worded.filled,
+        words,
+    })
 }
 
 // Interns the units of all words, in word order, and makes a set of the words of two units or more.
 pub fn seed_words(
     room: &mut [u8],
     set: WordSet,
-    base: usize,
-    cap: usize,
+    ring: Ring,
     pieces: &mut [u8],
     ends: &mut [u8],
-    count: usize,
-    used: usize,
-    words: &[u8],
-    word_ends: &[u8],
-    frequencies: &[u8],
-    seeding: u64,
-    prefix: &[u8],
-    suffix: &[u8],
-) -> Encoded
-    requires can_seed { CanSeed base cap count used (decorated_units seeding prefix.now suffix.now words.now word_ends.now) (cells room.old) pieces.old ends.old }
-    requires word_ends_value { (shaped words.now word_ends.now ≡ true) × (length word_ends.now / 4 ≡ length frequencies.now / 8) }
-    requires fits { Fits set base seeding words.now word_ends.now (cells room.old) }
-    ensures { WordsDone result set base cap count used frequencies.now (all_decorated seeding prefix.now suffix.now words.now word_ends.now)
+    filled: Filled,
+    t: Table,
+) -> Result<Encoded, NoRoom>
+    requires can_seed { CanSeed ring.base ring.cap filled.count filled.used
+        (decorated_units t.seeding t.prefix.now t.suffix.now t.words.now t.word_ends.now)
+        (cells room.old) pieces.old ends.old }
+    requires word_ends_value { (shaped t.words.now t.word_ends.now ≡ true)
+        × (length t.word_ends.now / 4 ≡ length t.frequencies.now / 8) }
+    requires fits { Fits set ring.base t.seeding t.words.now t.word_ends.now (cells room.old) }
+    ensures { WordsDone result set ring.base ring.cap filled.count filled.used t.entry.frequencies.now
+        (all_decorated t.entry.seeding t.entry.prefix.now t.entry.suffix.now t.entry.words.now t.entry.word_ends.now)
         room.old pieces.old ends.old room.new pieces.new ends.new }
 {
-    let many = word_ends.len() / 4;
-    let mut w = set;
-    let mut m = count;
-    let mut u = used;
+    let many = t.word_ends.len() / 4;
+    let mut so_far = Encoded { filled, words: set };
     let mut last = 0;
-    let mut k = 0;
-    while k < many {
-        let end = vocab::end_at(word_ends, k);
-        let f = numbers::load8(frequencies, k * 8);
-        let r = seed_entry(
-            room, w, base, cap, pieces, ends, m, u, words, last, end, f, seeding, prefix, suffix,
-        );
-        match r {
-            Encoded::Done(x, y, more) => {
-                m = x;
-                u = y;
-                w = more;
-                last = end;
-                k += 1;
-            }
-            Encoded::NoRoom => return Encoded::NoRoom,
-        }
+    for k in 0..many {
+        let end = vocab::end_at(t.word_ends, k);
+        let f = numbers::load8(t.frequencies, k * 8);
+        let word = &t.words[last..end];
+        so_far = seed_entry(room, so_far, ring, pieces, ends, word, f, t)?;
+        last = end;
     }
-    Encoded::Done(m, u, w)
+    Ok(so_far)
 }

@@ -3,9 +3,11 @@ use mathlib.Core.Path.{◌≡◌, refl, ap, ◌∙◌}
 use mathlib.Core.Bool.{true}
 use mathlib.Core.List.{List, [], ◌∷◌, ◌++◌}
 use mathlib.Core.Logic.{inr, ⊎_elim}
-use Prim.Native.Nat.{ℕ, ◌+◌, ◌-◌, ◌*◌, ◌<◌, ◌≤◌}
+use Prim.Native.Nat.{ℕ, ◌+◌, ◌*◌, ◌<◌, ◌≤◌}
 use native.Mathlib.Omega.{arith}
 use lib.ListN.{length, length-append}
+use Rattle.std.specs.Prelude.{Option, Some, None, MatchOption, IsSome}
+use Rattle.std.proofs.lemmas.Option.{MatchOption-at_some}
 use Rattle.runs.specs.Parts.{nth}
 use Rattle.runs.proofs.Parts.{same_or_not}
 use Rattle.rule.specs.Table.{Task}
@@ -29,7 +31,6 @@ use Rattle.states.proofs.Gains.{gaining_start, gaining_same}
 use Rattle.states.proofs.Touches.{touching_merge}
 use Rattle.pairs.specs.View.{behind, record_of, state}
 use Rattle.pairs.specs.Pairs.{Pairing, Has, Removed, Updated, SamePairs}
-use Rattle.pairs.specs.declared.Pairs.{Pairs}
 use Rattle.pairs.proofs.Clients.{has_tied, counted_has, pairs_kept}
 use Rattle.reports.specs.Reports.{beyond, keys_of, Listing}
 use Rattle.reports.proofs.Listed.{keys_none}
@@ -47,12 +48,6 @@ use Rattle.engine.proofs.Queues.{queued_older, queued_join, queued_room, gainer_
 -- a state with the mark of a touch
 abbrev touched_state : State → State
 touched_state s = record { count = s.count; marks = marking touched true s.marks; words = s.words }
-
--- THE MARK IS SET, as it is read and written
-pub touched_now : {p : Pairs} {k r m v : ℕ} {cs ds : List ℕ} → m ≡ (state p cs k).marks → v ≡ marking touched true m
-    → Updated p k r (record { count = (state p cs k).count; marks = v; words = (state p cs k).words }) cs ds
-    → Updated p k r (record { count = (state p cs k).count; marks = marking touched true (state p cs k).marks; words = (state p cs k).words }) cs ds
-touched_now e f u = rw (← e, ← f) u
 
 -- CALM STATES: settled ones without the merged pair, and those that are as they were
 removed_calm : {e : ℕ} {σ τ υ : ℕ → State} → Settled e σ τ → Change e blank τ υ → Calm υ
@@ -79,12 +74,16 @@ module _ (g : Engine) (a b x : ℕ) (cs : List ℕ) (j : CanJoin g a b x cs) whe
     pub join_finds : (Pairing g.pairs cs) × (0 < k)
     join_finds = (j.engaged.ok, rw e (key_pos a b))
 
-    module _ (v : ℕ) (f : v ≡ record_of g.pairs cs k) where
-      pub join_known : 1 ≤ v
-      join_known = rw (f, e) (counted_has j.engaged.ok (key_pos a b) counted)
+    module _ (o : Option ℕ) (f : MatchOption o (record_of g.pairs cs k ≡ 0) (λ r. record_of g.pairs cs k ≡ r + 1)) where
+      pub join_known : IsSome o
+      join_known = go o f
+        where
+          go : (o : Option ℕ) → MatchOption o (record_of g.pairs cs k ≡ 0) (λ r. record_of g.pairs cs k ≡ r + 1) → IsSome o
+          go None f' = absurd (let h = counted_has j.engaged.ok (key_pos a b) counted in omega (arith, rw e at f', h))
+          go (Some r) f' = refl
 
-      pub join_has : Has g.pairs k (v - 1) cs
-      join_has = has_tied j.engaged.ok (rw e (key_pos a b)) (omega (arith, f, join_known))
+      pub join_has : (r : ℕ) → o ≡ Some r → Has g.pairs k r cs
+      join_has r i = has_tied j.engaged.ok (rw e (key_pos a b)) (MatchOption-at_some (record_of g.pairs cs k ≡ 0) (λ r. record_of g.pairs cs k ≡ r + 1) r i f)
 
     -- MARKED: the words can be rewritten
     module _ (r : ℕ) (ds : List ℕ)

@@ -44,9 +44,9 @@ module _ (xs : List ℕ) (at n : ℕ) (h : at + n ≤ length xs) where
       ap (nth (laid xs at (zeros n))) (sym k) ∙ nth-laid xs at (zeros n) fits (j - at) (omega (arith, length-zeros n)) ∙ nth-zeros n (j - at)
 
 -- THE INDEX, the head of the records and the head of the lists
-pub cleared : (p : Pairs) (cs ds es : List ℕ) → CanClear p cs
-    → ds ≡ laid cs p.base (zeros (2 * p.cap + 3)) → es ≡ laid ds (lists_at p) (zeros 2) → Cleared p cs es
-cleared p cs ds es h u v = record {
+pub cleared : (p : Pairs) (cs ds es : List ℕ) (lists : ℕ) → CanClear p cs
+    → ds ≡ laid cs p.base (zeros (2 * p.cap + 3)) → lists ≡ lists_at p → es ≡ laid ds lists (zeros 2) → Cleared p cs es
+cleared p cs ds es lists h u e v' = record {
   empty = pairs_empty p es (omega (arith, h.room, long)) h.wide h.narrow (omega (arith, h.small, long))
       (λ j a b. second.same j (inl (omega arith)) ∙ rw u (nth_cleared cs p.base (2 * p.cap + 3) (omega (arith, h.room)) j a (omega arith)))
       (rw v (nth_cleared ds (lists_at p) 2 (omega (arith, h.room, first.long)) (lists_at p) (omega arith) (omega arith)))
@@ -54,6 +54,9 @@ cleared p cs ds es h u v = record {
   kept = kept_then (kept_wide p.base (behind p) (omega arith) (omega arith) first) (kept_wide p.base (behind p) (omega arith) (omega arith) second);
 }
   where
+    v : es ≡ laid ds (lists_at p) (zeros 2)
+    v = rw e at v'
+
     first : Kept p.base (p.base + (2 * p.cap + 3)) cs ds
     first = rw u (kept_cleared cs p.base (2 * p.cap + 3) (omega (arith, h.room)))
 
@@ -108,15 +111,15 @@ module _ (w : WordSet) (p : Pairs) (x : ℕ) (cs ds : List ℕ) (s : CanStart w 
         let l = keys_length p n es (omega (arith, d.listing.room, d.listing.few)) in
         omega (arith, few_gainers (state p es) (keys_of p n es))
 
-    pub settle_can : CanSettle p (beyond p) 0 n es
-    settle_can = record {
+    pub settle_can : (q : ℕ) → q ≡ beyond p → CanSettle p q 0 n es
+    settle_can q e = rw e (record {
       ok = d.ok;
       e = 0;
       listing = d.listing;
       apart = omega arith;
       heap = (holds_none (beyond p) es d.listing.room words_counted.small).heap;
       room = omega (arith, few_counted, d.few, s.space, s.room, long_counted);
-    }
+    })
 
     -- SETTLED: the engine stands, and every pair waits
     module _ (fs : List ℕ) (m : ℕ) (t : SettleDone p (beyond p) 0 n es fs m) where
@@ -137,8 +140,8 @@ module _ (w : WordSet) (p : Pairs) (x : ℕ) (cs ds : List ℕ) (s : CanStart w 
           live_is : w.live ≡ in_use (words_in w cs)
           live_is = s.words.used
 
-      pub started : Started w p x cs fs (record { words = w; pairs = p; queue = beyond p; waiting = m; turns = 5 * w.live })
-      started = record {
+      engine_started : Started w p x cs fs (record { words = w; pairs = p; queue = beyond p; waiting = m; turns = 5 * w.live })
+      engine_started = record {
         engaged = record {
           words = words-kept w es fs p.base (beyond p + 2 * m) words_counted t.kept (inr s.apart);
           apart = s.apart;
@@ -157,3 +160,8 @@ module _ (w : WordSet) (p : Pairs) (x : ℕ) (cs ds : List ℕ) (s : CanStart w 
         long = t.kept.long ∙ long_counted;
         waiting = waiting;
       }
+
+    -- as the code has where the queue begins
+    pub started : (fs : List ℕ) (m q : ℕ) → q ≡ beyond p → SettleDone p q 0 n es fs m
+        → Started w p x cs fs (record { words = w; pairs = p; queue = q; waiting = m; turns = 5 * w.live })
+    started fs m q e t = rw e (engine_started fs m (rw e at t))

@@ -1,5 +1,6 @@
-// The queue engine between two merges: the words, what is known of each pair, and the queue of the pairs that may be merged next.
-// So a merge goes to the words that hold its pair and to no others, and leaves the queue's entries alone.
+// The queue engine between two merges: the words, what is known of each pair, and the queue of the pairs that may be
+// merged next. So a merge goes to the words that hold its pair and to no others, and leaves the queue's entries
+// alone.
 #![tactic(auto)]
 
 ghost use Rattle.std.specs.Prelude.{true};
@@ -10,10 +11,13 @@ ghost use Rattle.pairs.specs.View.{state};
 ghost use Rattle.pairs.specs.Pairs.{Has, Updated};
 ghost use Rattle.engine.specs.Engine.{CanStart, Started, CanJoin, JoinDone, CanClear, Cleared, Tidied};
 
-use pairs::Pairs;
+use marks::Mark;
+use pairs::{Pair, Pairs};
+use step::Rule;
 use word::WordSet;
 
-// The queue has `waiting` candidates from the cell `queue` on, and at most `turns` entries are taken from it from here on.
+// The queue has `waiting` candidates from the cell `queue` on, and at most `turns` entries are taken from it from here
+// on.
 #[derive(Clone, Copy)]
 pub struct Engine {
     pub words: WordSet,
@@ -23,26 +27,28 @@ pub struct Engine {
     pub turns: usize,
 }
 
-// No pair is known yet: the index, the head of the records and the head of the lists are cleared. The records and the lists
-// themselves may hold anything, so that a start does not cost what they take.
+// No pair is known yet: the index, the head of the records and the head of the lists are cleared. The records and the
+// lists themselves may hold anything, so that a start does not cost what they take.
 fn clear(room: &mut [u8], p: Pairs)
     requires { CanClear p (cells room.old) }
     ensures { Cleared p (cells room.old) (cells room.new) }
 {
     cells::clear_cells(room, p.base, 2 * p.cap + 3);
-    cells::clear_cells(room, p.base + 2 * p.cap + 3 + p.most * 8, 2);
+    cells::clear_cells(room, p.lists(), 2);
 }
 
 // The pair that is merged counts as touched: it is not put on the list, and not released while its words are read.
-fn mark(room: &mut [u8], p: Pairs, key: u64, r: usize)
-    requires { Has p key r (cells room.old) }
-    ensures { Updated p key r
-        (record { count = (state p (cells room.old) key).count; marks = marking touched true (state p (cells room.old) key).marks; words = (state p (cells room.old) key).words })
+fn mark(room: &mut [u8], pair: Pair)
+    requires { Has pair.pairs pair.key pair.number (cells room.old) }
+    ensures { Updated pair.pairs pair.key pair.number
+        (record (state pair.pairs (cells room.old) pair.key) {
+          marks = marking touched true (state pair.pairs (cells room.old) pair.key).marks;
+        })
         (cells room.old) (cells room.new) }
 {
-    let m = fields::marks(room, p, key, r);
-    let touched = marks::set_touched(m);
-    fields::set_marks(room, p, key, r, touched);
+    let m = fields::marks(room, pair);
+    let touched = marks::set(Mark::Touched, m);
+    fields::set_marks(room, pair, touched);
 }
 
 // Closes the gaps between the words, where these take more cells than the symbols.
@@ -63,38 +69,36 @@ pub fn start(room: &mut [u8], w: WordSet, p: Pairs, x: u32) -> Engine
 {
     clear(room, p);
     let n = census::count_pairs(room, w, p);
-    let q = p.base + 2 * p.cap + 3 + p.most * 8 + 2 + 4 * p.most + 2 * p.most;
-    let m = settling::settle(room, p, q, 0, n);
+    let queue = p.end();
     Engine {
         words: w,
         pairs: p,
-        queue: q,
-        waiting: m,
+        queue,
+        waiting: settling::settle(room, p, queue, 0, n),
         turns: 5 * w.live,
     }
 }
 
-// Makes (a,b) the symbol x in all words that hold it.
-pub fn join(room: &mut [u8], g: Engine, a: u32, b: u32, x: u32) -> Engine
-    requires { CanJoin g a b x (cells room.old) }
-    ensures { JoinDone g a b x (cells room.old) (cells room.new) result }
+// Makes the rule's pair its symbol in all words that hold it.
+pub fn join(room: &mut [u8], g: Engine, rule: Rule) -> Engine
+    requires { CanJoin g rule.a rule.b rule.x (cells room.old) }
+    ensures { JoinDone g rule.a rule.b rule.x (cells room.old) (cells room.new) result }
 {
     let p = g.pairs;
-    let w = g.words;
-    let key = states::key(a, b);
-    let v = pairs::find(room, p, key);
-    let r = (v - 1) as usize;
-    mark(room, p, key, r);
-    let d = joining::merge_words(room, w, p, r, a, b, x, 0);
+    let key = states::key(rule.a, rule.b);
+    let r = pairs::find(room, p, key).unwrap();
+    let pair = Pair {
+        pairs: p,
+        key,
+        number: r,
+    };
+    mark(room, pair);
+    let d = joining::merge_words(room, g.words, p, r, rule, 0);
     let waiting = settling::settle(room, p, g.queue, g.waiting, d.touched);
     pairs::remove(room, p, key);
-    let rewritten = d.words;
-    let words = tidy(room, rewritten);
     Engine {
-        words: words,
-        pairs: p,
-        queue: g.queue,
-        waiting: waiting,
-        turns: g.turns,
+        words: tidy(room, d.words),
+        waiting,
+        ..g
     }
 }

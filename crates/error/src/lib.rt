@@ -7,6 +7,10 @@ ghost use Rattle.std.specs.Prelude.{◌≡◌};
 ghost use Rattle.runs.specs.Parts.{nth};
 ghost use Rattle.error.specs.Answers.{train_verdict, piece_verdict, merge_error_verdict};
 
+// What was asked for has no place in a lent room.
+#[derive(Clone, Copy)]
+pub struct NoRoom;
+
 // Why a table was not trained on.
 #[derive(Clone, Copy)]
 pub enum TrainError {
@@ -34,6 +38,7 @@ pub enum TrainError {
 
 impl TrainError {
     // The number in the table of refusals.
+    #[tactic(auto, unfolding(crate::specs::Answers::train_verdict))]
     pub fn number(self) -> u64
         ensures { result ≡ (train_verdict self).number }
     {
@@ -52,6 +57,8 @@ impl TrainError {
     }
 
     // The first number given, 0 where there is none.
+    // Stays: C is told 0 where a refusal gives no number, as the clause has it by `nth`.
+    #[tactic(auto, unfolding(runs::specs::Parts::nth, crate::specs::Answers::train_verdict))]
     pub fn first(self) -> u64
         ensures { result ≡ nth (train_verdict self).gives 0 }
     {
@@ -65,6 +72,8 @@ impl TrainError {
     }
 
     // The second number given, 0 where there is none.
+    // Stays: as `first`, what C is told.
+    #[tactic(auto, unfolding(runs::specs::Parts::nth, crate::specs::Answers::train_verdict))]
     pub fn second(self) -> u64
         ensures { result ≡ nth (train_verdict self).gives 1 }
     {
@@ -87,6 +96,7 @@ pub enum PieceError {
 
 impl PieceError {
     // The number in the table of refusals.
+    #[tactic(auto, unfolding(crate::specs::Answers::piece_verdict))]
     pub fn number(self) -> u64
         ensures { result ≡ (piece_verdict self).number }
     {
@@ -108,6 +118,7 @@ pub enum MergeError {
 
 impl MergeError {
     // The number in the table of refusals.
+    #[tactic(auto, unfolding(crate::specs::Answers::merge_error_verdict))]
     pub fn number(self) -> u64
         ensures { result ≡ (merge_error_verdict self).number }
     {

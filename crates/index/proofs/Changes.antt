@@ -19,15 +19,15 @@ module _ (base cap k : ℕ) (cs : List ℕ) (r : Found) where
   pub found_vacant : Index base cap cs → 0 < k → r ≡ slot base cap cs k → (j : ℕ) → r ≡ Vacant j → NewSlot base cap k j cs
   found_vacant ix p s j e = record { ix = ix; pos = p; is = sym s ∙ e; low = (slot-vacant base cap cs ix k j (sym s ∙ e)).0 }
 
-  pub get_vacant : r ≡ slot base cap cs k → (j : ℕ) → r ≡ Vacant j → 0 ≡ value base cap cs k
-  get_vacant s j e = sym (value-vacant base cap k cs j (sym s ∙ e))
+  pub get_vacant : r ≡ slot base cap cs k → (j : ℕ) → r ≡ Vacant j → value base cap cs k ≡ 0
+  get_vacant s j e = value-vacant base cap k cs j (sym s ∙ e)
 
-  pub get_full : r ≡ slot base cap cs k → r ≡ Full → 0 ≡ value base cap cs k
-  get_full s e = sym (value_full base cap k cs (sym s ∙ e))
+  pub get_full : r ≡ slot base cap cs k → r ≡ Full → value base cap cs k ≡ 0
+  get_full s e = value_full base cap k cs (sym s ∙ e)
 
-pub get_at : (base cap k j x : ℕ) (cs : List ℕ) → AtSlot base cap k j cs → x ≡ nth cs (base + 2 * j + 1) → x ≡ value base cap cs k
+pub get_at : (base cap k j x : ℕ) (cs : List ℕ) → AtSlot base cap k j cs → x ≡ nth cs (base + 2 * j + 1) → value base cap cs k ≡ x
 unfolding value_at
-get_at base cap k j x cs a e = e ∙ sym (value_at_lem base cap k cs j a.is)
+get_at base cap k j x cs a e = value_at_lem base cap k cs j a.is ∙ sym e
 
 -- INSERTING
 module _ (base cap k v : ℕ) where

@@ -7,7 +7,7 @@ use native.Mathlib.Omega.{arith}
 use lib.ListN.{length}
 use Rattle.runs.specs.Parts.{nth, laid, zeros, Kept}
 use Rattle.runs.proofs.Parts.{same_or_not, length-zeros, nth-zeros, length-laid, nth-laid}
-use Rattle.cells.proofs.Ring.{blanks-same, blanks_all, blanks_lt}
+use Rattle.cells.proofs.Rings.{blanks-same, blanks_all, blanks_lt}
 use Rattle.index.specs.Index.{key_at, value_at, home, slot, value, vacant, idle, Index, Set, Empty, Inserted, SameIndex}
 use Rattle.cells.specs.declared.Found.{Found}
 use Rattle.cells.specs.declared.Found.TheVariants.{At, Vacant, Full}

@@ -5,7 +5,7 @@ use native.Mathlib.Omega.{arith}
 use borrow.Author.Tests.{eq-eqb, ne_eqb}
 use Rattle.runs.proofs.Parts.{same_or_not}
 use Rattle.cells.specs.Ring.{after}
-use Rattle.cells.proofs.Ring.{after_lt, Ahead, ahead_none, ahead_next, ahead_all}
+use Rattle.cells.proofs.Rings.{after_lt, Ahead, ahead_none, ahead_next, ahead_all}
 use Rattle.cells.proofs.Search.{at_vacant, at_full, vacant_full, same_at, same-vacant}
 use Rattle.index.specs.Probe.{probe}
 use Rattle.cells.specs.declared.Found.TheVariants.{At, Vacant, Full}

@@ -8,7 +8,7 @@ use Rattle.runs.specs.Parts.{put}
 use Rattle.runs.proofs.Parts.{same_or_not, length-put, nth-put, nth-put_other}
 use Rattle.runs.proofs.Frames.{kept-put}
 use Rattle.cells.specs.Cells.{cells, Put}
-use Rattle.cells.proofs.Ring.{blanks-same, blanks-less}
+use Rattle.cells.proofs.Rings.{blanks-same, blanks-less}
 use Rattle.index.specs.Index.{key_at, value_at, home, slot, value, vacant, idle, Index, Set, AtSlot, NewSlot, PutValue, PutKey}
 use Rattle.cells.specs.declared.Found.TheVariants.{At}
 use Rattle.index.proofs.Probes.{probe-same, probe_still, probe_new}

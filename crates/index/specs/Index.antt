@@ -1,6 +1,6 @@
 -- An index from keys to values in 2 * cap cells. A slot is two cells side by side, its key and then its value. A key of 0 is a vacant slot, a value
 -- of 0 a key that has none. A key stays in its slot for good: to remove it is to set its value to 0. So a lookup ends at the first vacant slot.
-use Rattle.std.specs.Prelude.{◌≡◌, cond, List, ℕ, ◌+◌, ◌*◌, ◌/◌, ◌%◌, ◌^◌, ◌<◌, ◌≤◌, ltb, length}
+use Rattle.std.specs.Prelude.{◌≡◌, cond, List, ℕ, ◌+◌, ◌*◌, ◌/◌, ◌%◌, ◌^◌, ◌<◌, ◌≤◌, ltb, length, Option, MatchOption}
 use Rattle.runs.specs.Parts.{nth, Kept}
 use Rattle.cells.specs.Ring.{blanks}
 use Rattle.index.specs.Probe.{probe}
@@ -37,6 +37,10 @@ value_of base cs Full = 0
 -- THE VIEW: the value of a key, 0 where it has none
 unfoldable pub value : ℕ → ℕ → List ℕ → ℕ → ℕ
 value base cap cs k = value_of base cs (slot base cap cs k)
+
+-- WHAT IS TOLD of the value v of a key: nothing where it is 0
+abbrev pub Told : ℕ → Option ℕ → Type 0
+Told v r = MatchOption r (v ≡ 0) (λ x. (v ≡ x) × (0 < x))
 
 -- how many slots are vacant, and how many have no value
 unfoldable pub vacant : ℕ → ℕ → List ℕ → ℕ

@@ -8,9 +8,9 @@
 
 ghost use Rattle.std.specs.Prelude.{◌≡◌, ◌<◌, ◌≤◌};
 ghost use Rattle.cells.specs.Cells.{cells};
-ghost use Rattle.index.specs.Index.{mix, home, slot, value, Index, CanInsert, Inserted, CanErase, Erased, AtSlot, NewSlot, PutValue, PutKey};
+ghost use Rattle.index.specs.Index.{mix, home, slot, value, Told, Index, CanInsert, Inserted, CanErase, Erased, AtSlot, NewSlot, PutValue, PutKey};
 
-use cells::Found;
+use cells::{Found, Ring};
 
 // A key's hash, by its two halves, but for its lowest six digits. The factors are fractions of 2^32
 // whose multiples and sums of multiples lie evenly between 0 and 1, so that keys with small halves
@@ -31,99 +31,89 @@ fn start(cap: usize, key: u64) -> usize
     let h = hash(key);
     let row = (h * (cap as u64) / 4294967296) as usize;
     let s = row + (key % 64) as usize;
-    if s < cap {
-        return s;
-    }
-    row
+    if s < cap { s } else { row }
 }
 
 // Where a key is, or would go. At most `cap` slots are looked at.
-fn find(room: &[u8], base: usize, cap: usize, key: u64) -> Found
-    requires { Index base cap (cells room.now) }
-    ensures { result ≡ slot base cap (cells room.now) key }
+fn find(room: &[u8], ring: Ring, key: u64) -> Found
+    requires { Index ring.base ring.cap (cells room.now) }
+    ensures { result ≡ slot ring.base ring.cap (cells room.now) key }
 {
-    let mut i = start(cap, key);
-    let mut left = cap;
-    while 0 < left {
-        let x = cells::cell(room, base + 2 * i);
+    let mut i = start(ring.cap, key);
+    for _ in 0..ring.cap {
+        let x = cells::cell(room, ring.base + 2 * i);
         if x == key {
             return Found::At(i);
         }
         if x == 0 {
             return Found::Vacant(i);
         }
-        i = cells::next(cap, i);
-        left -= 1;
+        i = cells::next(ring.cap, i);
     }
     Found::Full
 }
 
-// The value in the key's slot.
-fn value_in(room: &[u8], base: usize, cap: usize, key: u64, j: usize) -> u64
-    requires { AtSlot base cap key j (cells room.now) }
-    ensures { result ≡ value base cap (cells room.now) key }
+// What the value in the key's slot says.
+// Stays: 0 for none in a cell (`value`): a slot is fixed memory and has no cell for a tag.
+fn value_in(room: &[u8], ring: Ring, key: u64, j: usize) -> Option<u64>
+    requires { AtSlot ring.base ring.cap key j (cells room.now) }
+    ensures { Told (value ring.base ring.cap (cells room.now) key) result }
 {
-    cells::cell(room, base + 2 * j + 1)
+    let v = cells::cell(room, ring.base + 2 * j + 1);
+    if v == 0 { None } else { Some(v) }
 }
 
 // Puts a value in the key's slot.
-fn put_value(room: &mut [u8], base: usize, cap: usize, key: u64, j: usize, v: u64)
-    requires { (AtSlot base cap key j (cells room.old)) × (0 < key) }
-    ensures { PutValue base cap key v (cells room.old) (cells room.new) }
+fn put_value(room: &mut [u8], ring: Ring, key: u64, j: usize, v: u64)
+    requires { (AtSlot ring.base ring.cap key j (cells room.old)) × (0 < key) }
+    ensures { PutValue ring.base ring.cap key v (cells room.old) (cells room.new) }
 {
-    cells::put_cell(room, base + 2 * j + 1, v);
+    cells::put_cell(room, ring.base + 2 * j + 1, v);
 }
 
 // Puts the key in the vacant slot where it goes.
-fn put_key(room: &mut [u8], base: usize, cap: usize, key: u64, j: usize)
-    requires { NewSlot base cap key j (cells room.old) }
-    ensures { PutKey base cap key j (cells room.old) (cells room.new) }
+fn put_key(room: &mut [u8], ring: Ring, key: u64, j: usize)
+    requires { NewSlot ring.base ring.cap key j (cells room.old) }
+    ensures { PutKey ring.base ring.cap key j (cells room.old) (cells room.new) }
 {
-    cells::put_cell(room, base + 2 * j, key);
+    cells::put_cell(room, ring.base + 2 * j, key);
 }
 
-// The value of a key, 0 where it has none.
-pub fn get(room: &[u8], base: usize, cap: usize, key: u64) -> u64
-    requires { Index base cap (cells room.now) }
-    ensures { result ≡ value base cap (cells room.now) key }
+// The value of a key, where it has one.
+pub fn get(room: &[u8], ring: Ring, key: u64) -> Option<u64>
+    requires { Index ring.base ring.cap (cells room.now) }
+    ensures { Told (value ring.base ring.cap (cells room.now) key) result }
 {
-    let found = find(room, base, cap, key);
-    match found {
-        Found::At(j) => value_in(room, base, cap, key, j),
-        Found::Vacant(_) => 0,
-        Found::Full => 0,
+    match find(room, ring, key) {
+        Found::At(j) => value_in(room, ring, key, j),
+        Found::Vacant(_) => None,
+        Found::Full => None,
     }
 }
 
 // Gives a key that has no value one. A vacant slot is asked for even where the key has a slot: then
 // a client counts its inserts, and need not know which keys came before.
-pub fn insert(room: &mut [u8], base: usize, cap: usize, key: u64, v: u64)
-    requires { CanInsert base cap key v (cells room.old) }
-    ensures { Inserted base cap key v (cells room.old) (cells room.new) }
+pub fn insert(room: &mut [u8], ring: Ring, key: u64, v: u64)
+    requires { CanInsert ring.base ring.cap key v (cells room.old) }
+    ensures { Inserted ring.base ring.cap key v (cells room.old) (cells room.new) }
 {
-    let found = find(room, base, cap, key);
-    match found {
-        Found::At(j) => {
-            put_value(room, base, cap, key, j, v);
-        }
+    match find(room, ring, key) {
+        Found::At(j) => put_value(room, ring, key, j, v),
         Found::Vacant(j) => {
-            put_key(room, base, cap, key, j);
-            put_value(room, base, cap, key, j, v);
+            put_key(room, ring, key, j);
+            put_value(room, ring, key, j, v);
         }
         Found::Full => {}
     }
 }
 
 // Takes a key's value away.
-pub fn erase(room: &mut [u8], base: usize, cap: usize, key: u64)
-    requires { CanErase base cap key (cells room.old) }
-    ensures { Erased base cap key (cells room.old) (cells room.new) }
+pub fn erase(room: &mut [u8], ring: Ring, key: u64)
+    requires { CanErase ring.base ring.cap key (cells room.old) }
+    ensures { Erased ring.base ring.cap key (cells room.old) (cells room.new) }
 {
-    let found = find(room, base, cap, key);
-    match found {
-        Found::At(j) => {
-            put_value(room, base, cap, key, j, 0);
-        }
+    match find(room, ring, key) {
+        Found::At(j) => put_value(room, ring, key, j, 0),
         Found::Vacant(_) => {}
         Found::Full => {}
     }

@@ -8,7 +8,7 @@ use native.Mathlib.Omega.{arith}
 use lib.ListN.{length}
 use Rattle.runs.specs.Parts.{nth, Kept}
 use Rattle.cells.specs.Ring.{after}
-use Rattle.cells.proofs.Ring.{after_lt, blanks-same}
+use Rattle.cells.proofs.Rings.{after_lt, blanks-same}
 use Rattle.rule.specs.Layout.{piece_at}
 use Rattle.spells.specs.Hash.{hash_of}
 use Rattle.intern.specs.Seek.{seek, vacancies}

@@ -6,7 +6,7 @@ use Prim.Native.Nat.{ℕ, ◌+◌, ◌*◌, ◌-◌, ◌/◌, ◌%◌, ◌<◌, 
 use native.Mathlib.Omega.{arith}
 use native.Mathlib.Nat.{mod-lt}
 use lib.Dec.{eqb, leb}
-use borrow.Author.Tests.{eq-eqb, ne_eqb, leb-true, leb-false, le-leb, lt-leb, not-true, not-false}
+use borrow.Author.Tests.{eq-eqb, ne_eqb, leb-true, leb-false, not-true, not-false}
 use lib.ListN.{length, get_or, take, drop, length-append}
 use Rattle.runs.specs.Parts.{nth, Kept}
 use Rattle.order.specs.Order.{same}
@@ -17,7 +17,7 @@ use Rattle.numbers.specs.Little.{store}
 use Rattle.cells.specs.Cells.{cells, Put}
 use Rattle.cells.specs.Ring.{after}
 use Rattle.cells.proofs.Cells.{length-cells}
-use Rattle.cells.proofs.Ring.{blanks-less, blanks_some}
+use Rattle.cells.proofs.Rings.{blanks-less, blanks_some}
 use Rattle.rule.specs.Seeding.{number_of}
 use Rattle.rule.specs.Layout.{piece_start, piece_at}
 use Rattle.rule.proofs.Seeding.{Has, found}
@@ -58,9 +58,9 @@ module _ (h : ℕ) (s xs ys : List ℕ) (x : ℕ) where
 pub home_lt : (h cap : ℕ) → 0 < cap → h % cap < cap
 home_lt h cap p = mod-lt h p
 
-pub find_start : (base cap h : ℕ) (cs xs ys s : List ℕ) → h ≡ hash_of s → look base cap cs xs ys s ≡ seek (spelt (hash_of s) s xs ys) cs base cap cap (h % cap)
+pub find_start : (base cap h n : ℕ) (cs xs ys s : List ℕ) → h ≡ hash_of s → n ≡ cap → look base cap cs xs ys s ≡ seek (spelt (hash_of s) s xs ys) cs base cap n (h % cap)
 unfolding look
-find_start base cap h cs xs ys s e = rw e
+find_start base cap h n cs xs ys s e f = rw (e, f)
 
 module _ (s xs ys cs : List ℕ) (base cap n i x h : ℕ) (f : Found) where
   told : h ≡ hash_of s → (r b : Bool) → r ≡ spelt h s xs ys x → r ≡ b → spelt (hash_of s) s xs ys x ≡ b
@@ -74,9 +74,9 @@ module _ (s xs ys cs : List ℕ) (base cap n i x h : ℕ) (f : Found) where
   find_at inv some e z k r q y = seek_at (spelt (hash_of s) s xs ys) cs base cap n i x f inv some e z (told k r true q y)
 
   pub find_next : f ≡ seek (spelt (hash_of s) s xs ys) cs base cap n i → 0 < n → x ≡ nth cs (base + i) → (x ≡ 0 → ⊥) → h ≡ hash_of s
-      → (r : Bool) → r ≡ spelt h s xs ys x → r ≡ false → (m : ℕ) → m ≡ after cap i
-      → f ≡ seek (spelt (hash_of s) s xs ys) cs base cap (n - 1) m
-  find_next inv some e z k r q y = seek_next (spelt (hash_of s) s xs ys) cs base cap n i x f inv some e z (told k r false q y)
+      → (r : Bool) → r ≡ spelt h s xs ys x → r ≡ false → (m l : ℕ) → m ≡ after cap i → l ≡ n - 1
+      → f ≡ seek (spelt (hash_of s) s xs ys) cs base cap l m
+  find_next inv some e z k r q y m l a b = rw b (seek_next (spelt (hash_of s) s xs ys) cs base cap n i x f inv some e z (told k r false q y) m a)
 
   pub find_none : f ≡ seek (spelt (hash_of s) s xs ys) cs base cap n i → n ≤ 0 → Full ≡ f
   find_none = seek_none (spelt (hash_of s) s xs ys) cs base cap n i x f
@@ -268,20 +268,6 @@ module _ (base cap n u : ℕ) (s : List ℕ) (j : ℕ) (rs xs ys : List ℕ) (c 
 
 pub length_three : (a b d : List ℕ) → length (a ++ (b ++ d)) ≡ length a + (length b + length d)
 length_three a b d = simp length-append
-
-module _ (left a b d : ℕ) where
-  pub fits_first : left < a → false ≡ leb (a + (b + d)) left
-  fits_first h = sym (lt-leb (a + (b + d)) left (omega arith))
-
-  pub fits_second : left - a < b → false ≡ leb (a + (b + d)) left
-  fits_second h = sym (lt-leb (a + (b + d)) left (omega arith))
-
-  pub fits_last : a ≤ left → b ≤ left - a → leb d (left - a - b) ≡ leb (a + (b + d)) left
-  fits_last h k = go (leb d (left - a - b)) refl
-    where
-      go : (t : Bool) → leb d (left - a - b) ≡ t → t ≡ leb (a + (b + d)) left
-      go true e = let z = leb-true d (left - a - b) e in sym (le-leb (a + (b + d)) left (omega arith))
-      go false e = let z = leb-false d (left - a - b) e in sym (lt-leb (a + (b + d)) left (omega arith))
 
 -- as a caller is told
 module _ (a b d : List ℕ) (left : ℕ) (r : Bool) (e : r ≡ leb (length a + (length b + length d)) left) where

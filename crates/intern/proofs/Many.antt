@@ -10,7 +10,7 @@ use Rattle.runs.specs.Parts.{nth, part, Kept}
 use Rattle.runs.proofs.Parts.{part_none, part_split, length-part}
 use Rattle.runs.proofs.Frames.{kept_none, kept_then, kept_wide}
 use Rattle.cells.specs.Cells.{cells}
-use Rattle.cells.proofs.Ring.{blanks_all}
+use Rattle.cells.proofs.Rings.{blanks_all}
 use Rattle.rule.specs.Seeding.{intern, number_of}
 use Rattle.rule.specs.Layout.{piece_bytes, piece_start, piece_at}
 use Rattle.rule.proofs.Seeding.{has_intern, interns_stay}

@@ -38,13 +38,6 @@ piece_part xs ys n = rw (add-one n)
 pub piece_lent : (xs ys : List ℕ) (k from to : ℕ) → from ≡ piece_start ys k → to ≡ piece_start ys (k + 1) → take (to - from) (drop from xs) ≡ piece_at xs ys k
 piece_lent xs ys k from to e f = part_lent from to xs ∙ rw (e, f) (sym (piece_part xs ys k))
 
-pub piece_inside : (n u k from to : ℕ) (xs ys : List ℕ) → Held n u xs ys → k < n → from ≡ piece_start ys k → to ≡ piece_start ys (k + 1)
-    → (from ≤ to) × (to ≤ length xs)
-piece_inside n u k from to xs ys l h e f =
-    let r = l.rises k h in
-    let w = l.low (k + 1) (omega arith) in
-    (omega (arith, r, e, f), omega (arith, w, f, l.bytes))
-
 -- ONE MORE END
 
 module _ (ys : List ℕ) (n v : ℕ) (h : n * 4 + 4 ≤ length ys) where

@@ -8,7 +8,7 @@ use borrow.Author.Tests.{eq-eqb, ne_eqb}
 use Rattle.runs.specs.Parts.{nth}
 use Rattle.runs.proofs.Parts.{same_or_not}
 use Rattle.cells.specs.Ring.{after}
-use Rattle.cells.proofs.Ring.{after_lt, Ahead, ahead_none, ahead_next, ahead_all}
+use Rattle.cells.proofs.Rings.{after_lt, Ahead, ahead_none, ahead_next, ahead_all}
 use Rattle.cells.proofs.Search.{at_vacant, at_full, vacant_full, same_at, same-vacant}
 use Rattle.intern.specs.Seek.{number_in, seek}
 use Rattle.cells.specs.declared.Found.{Found}

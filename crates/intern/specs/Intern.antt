@@ -1,5 +1,5 @@
 -- The table from spellings to numbers, and what interning does: "A spelling already present gets its existing number".
-use Rattle.std.specs.Prelude.{◌≡◌, Bool, ◌&&◌, List, [], ◌∷◌, ◌++◌, ◌⊎◌, ℕ, ◌+◌, ◌*◌, ◌/◌, ◌%◌, ◌^◌, ◌<◌, ◌≤◌, eqb, length}
+use Rattle.std.specs.Prelude.{◌≡◌, Bool, ◌&&◌, List, [], ◌∷◌, ◌++◌, ◌⊎◌, ℕ, ◌+◌, ◌*◌, ◌/◌, ◌%◌, ◌^◌, ◌<◌, ◌≤◌, eqb, length, Result, Ok, Err}
 use Rattle.runs.specs.Parts.{nth, Kept}
 use Rattle.order.specs.Order.{same}
 use Rattle.cells.specs.Cells.{cells}
@@ -10,8 +10,8 @@ use Rattle.intern.specs.Pieces.{pieces, Held}
 use Rattle.intern.specs.Seek.{number_in, seek, vacancies}
 use Rattle.cells.specs.declared.Found.{Found}
 use Rattle.cells.specs.declared.Found.TheVariants.{At, Vacant}
+use Rattle.error.specs.declared.NoRoom.{NoRoom}
 use Rattle.intern.specs.declared.Interned.{Interned}
-use Rattle.intern.specs.declared.Interned.TheVariants as is
 
 -- the slot x has the hash h, and its piece is spelled s
 unfoldable pub spelt : ℕ → List ℕ → List ℕ → List ℕ → ℕ → Bool
@@ -74,6 +74,6 @@ unfoldable pub Lacks : ℕ → ℕ → List ℕ → List ℕ → List ℕ → Ty
 Lacks n u s xs ys = (length ys < (n + 1) * 4) ⊎ ((length xs < u + length s) ⊎ (4294967295 < u + length s))
 
 -- WHAT AN ANSWER SAYS of the three runs before and after
-unfoldable pub Answer : Interned → ℕ → ℕ → ℕ → ℕ → List ℕ → List ℕ → List ℕ → List ℕ → List ℕ → List ℕ → List ℕ → Type 0
-Answer (is.At k n' u') base cap n u s rs xs ys qs vs ws = Gave base cap n u s rs xs ys qs vs ws k n' u'
-Answer is.NoRoom base cap n u s rs xs ys qs vs ws = Left n s rs xs ys qs vs ws × Lacks n u s xs ys
+unfoldable pub Answer : Result Interned NoRoom → ℕ → ℕ → ℕ → ℕ → List ℕ → List ℕ → List ℕ → List ℕ → List ℕ → List ℕ → List ℕ → Type 0
+Answer (Ok i) base cap n u s rs xs ys qs vs ws = Gave base cap n u s rs xs ys qs vs ws i.number i.filled.count i.filled.used
+Answer (Err e) base cap n u s rs xs ys qs vs ws = Left n s rs xs ys qs vs ws × Lacks n u s xs ys

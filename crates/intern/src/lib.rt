@@ -7,12 +7,16 @@
 // touched but by a new piece.
 #![tactic(auto)]
 
-ghost use Rattle.std.specs.Prelude.{◌≡◌, ◌++◌, ◌+◌, ◌*◌, ◌%◌, ◌<◌, ◌≤◌, length, leb};
+ghost use Rattle.std.specs.Prelude.{◌≡◌, ◌+◌, ◌*◌, ◌%◌, ◌<◌, ◌≤◌, length, leb};
 ghost use Rattle.cells.specs.Cells.{cells};
 ghost use Rattle.intern.specs.Pieces.{Held};
+ghost use Rattle.intern.specs.Spelled.{spelled};
 ghost use Rattle.intern.specs.Intern.{spelt, look, Pieces, CanIntern, CanAdd, Answer};
 
-use cells::Found;
+use cells::{Found, Ring};
+use error::NoRoom;
+use spells::Spelling;
+use vocab::Filled;
 
 // The end of a piece has 4 bytes.
 const LONGEST: usize = 4294967295;
@@ -24,14 +28,12 @@ fn is_spelled(
     hash: u64,
     pieces: &[u8],
     ends: &[u8],
-    count: usize,
-    used: usize,
-    prefix: &[u8],
-    unit: &[u8],
-    suffix: &[u8],
+    filled: Filled,
+    spelling: Spelling,
 ) -> bool
-    requires { (Held count used pieces.now ends.now) × (0 < x % 4294967296) × (x % 4294967296 ≤ count) }
-    ensures { result ≡ spelt hash (prefix.now ++ (unit.now ++ suffix.now)) pieces.now ends.now x }
+    requires { (Held filled.count filled.used pieces.now ends.now)
+        × (0 < x % 4294967296) × (x % 4294967296 ≤ filled.count) }
+    ensures { result ≡ spelt hash (spelled spelling.entry) pieces.now ends.now x }
 {
     if x / 4294967296 != hash {
         return false;
@@ -39,123 +41,115 @@ fn is_spelled(
     let k = (x % 4294967296 - 1) as usize;
     let from = vocab::piece_start(ends, k);
     let to = vocab::piece_start(ends, k + 1);
-    spells::equal_three(prefix, unit, suffix, &pieces[from..to])
+    spells::equal_three(spelling, &pieces[from..to])
 }
 
-// Which piece has this spelling. At most `cap` slots are looked at.
+// Which piece has this spelling. Each slot is looked at once at most.
 fn find(
     room: &[u8],
-    base: usize,
-    cap: usize,
+    ring: Ring,
     pieces: &[u8],
     ends: &[u8],
-    count: usize,
-    used: usize,
-    prefix: &[u8],
-    unit: &[u8],
-    suffix: &[u8],
+    filled: Filled,
+    spelling: Spelling,
 ) -> Found
-    requires { Pieces base cap count used (cells room.now) pieces.now ends.now }
-    ensures { result ≡ look base cap (cells room.now) pieces.now ends.now (prefix.now ++ (unit.now ++ suffix.now)) }
+    requires { Pieces ring.base ring.cap filled.count filled.used (cells room.now) pieces.now ends.now }
+    ensures { result ≡ look ring.base ring.cap (cells room.now) pieces.now ends.now (spelled spelling.entry) }
 {
-    let hash = spells::hash_three(prefix, unit, suffix);
-    let mut i = (hash % (cap as u64)) as usize;
-    let mut left = cap;
-    while 0 < left {
-        let x = cells::cell(room, base + i);
+    let hash = spells::hash_three(spelling);
+    let mut i = (hash % (ring.cap as u64)) as usize;
+    for _ in 0..ring.cap {
+        let x = cells::cell(room, ring.base + i);
         if x == 0 {
             return Found::Vacant(i);
         }
-        if is_spelled(x, hash, pieces, ends, count, used, prefix, unit, suffix) {
+        if is_spelled(x, hash, pieces, ends, filled, spelling) {
             return Found::At((x % 4294967296 - 1) as usize);
         }
-        i = cells::next(cap, i);
-        left -= 1;
+        i = cells::next(ring.cap, i);
     }
     Found::Full
 }
 
 // Tells whether a spelling fits `left` bytes, with no sum that could wrap.
-fn fits(left: usize, prefix: &[u8], unit: &[u8], suffix: &[u8]) -> bool
-    ensures { result ≡ leb (length prefix.now + (length unit.now + length suffix.now)) left }
+fn fits(left: usize, spelling: Spelling) -> bool
+    ensures { result ≡ leb (length spelling.entry.prefix.now
+        + (length spelling.entry.unit.now + length spelling.entry.suffix.now)) left }
 {
-    if left < prefix.len() {
-        return false;
-    }
-    let rest = left - prefix.len();
-    if rest < unit.len() {
-        return false;
-    }
-    suffix.len() <= rest - unit.len()
+    let Spelling {
+        prefix,
+        unit,
+        suffix,
+    } = spelling;
+    prefix.len() <= left
+        && unit.len() <= left - prefix.len()
+        && suffix.len() <= left - prefix.len() - unit.len()
 }
 
-// A spelling's number, with how many pieces and bytes there are now; or that it has no place: in the
-// ends room, in the piece room, or in the 4 bytes of an end.
+// A spelling's number, and how far the runs are filled now.
 #[derive(Clone, Copy)]
-pub enum Interned {
-    At(usize, usize, usize),
-    NoRoom,
+pub struct Interned {
+    pub number: usize,
+    pub filled: Filled,
 }
 
-// Puts a spelling that is new behind the others, and its number in the vacant slot.
+// Puts a spelling that is new behind the others, and its number in the vacant slot. It has no room
+// where the ends room, the piece room or the 4 bytes of an end have none.
 fn add(
     room: &mut [u8],
-    base: usize,
-    cap: usize,
+    ring: Ring,
     pieces: &mut [u8],
     ends: &mut [u8],
-    count: usize,
-    used: usize,
-    prefix: &[u8],
-    unit: &[u8],
-    suffix: &[u8],
+    filled: Filled,
+    spelling: Spelling,
     slot: usize,
-) -> Interned
-    requires { CanAdd base cap count used (prefix.now ++ (unit.now ++ suffix.now)) slot (cells room.old) pieces.old ends.old }
-    ensures { Answer result base cap count used (prefix.now ++ (unit.now ++ suffix.now))
+) -> Result<Interned, NoRoom>
+    requires { CanAdd ring.base ring.cap filled.count filled.used (spelled spelling) slot
+        (cells room.old) pieces.old ends.old }
+    ensures { Answer result ring.base ring.cap filled.count filled.used (spelled spelling.entry)
         room.old pieces.old ends.old room.new pieces.new ends.new }
 {
+    let Filled { count, used } = filled;
     if ends.len() / 4 <= count {
-        return Interned::NoRoom;
+        return Err(NoRoom);
     }
-    if !fits(pieces.len() - used, prefix, unit, suffix) {
-        return Interned::NoRoom;
+    if !fits(pieces.len() - used, spelling) {
+        return Err(NoRoom);
     }
-    if !fits(LONGEST - used, prefix, unit, suffix) {
-        return Interned::NoRoom;
+    if !fits(LONGEST - used, spelling) {
+        return Err(NoRoom);
     }
-    let hash = spells::hash_three(prefix, unit, suffix);
-    let end = spelling::decorate(pieces, used, prefix, unit, suffix);
+    let hash = spells::hash_three(spelling);
+    let end = spelling::decorate(pieces, used, spelling);
     numbers::store4(ends, count * 4, end as u32);
-    cells::put_cell(room, base + slot, hash * 4294967296 + ((count + 1) as u64));
-    Interned::At(count, count + 1, end)
+    let x = hash * 4294967296 + ((count + 1) as u64);
+    cells::put_cell(room, ring.base + slot, x);
+    Ok(Interned {
+        number: count,
+        filled: Filled {
+            count: count + 1,
+            used: end,
+        },
+    })
 }
 
 // Gives the spelling a number, or the one it already has.
+// Stays: the rooms apart: the words and the heap lie in the same room, written between two internings.
 pub fn intern(
     room: &mut [u8],
-    base: usize,
-    cap: usize,
+    ring: Ring,
     pieces: &mut [u8],
     ends: &mut [u8],
-    count: usize,
-    used: usize,
-    prefix: &[u8],
-    unit: &[u8],
-    suffix: &[u8],
-) -> Interned
-    requires { CanIntern base cap count used (cells room.old) pieces.old ends.old }
-    ensures { Answer result base cap count used (prefix.now ++ (unit.now ++ suffix.now))
+    filled: Filled,
+    spelling: Spelling,
+) -> Result<Interned, NoRoom>
+    requires { CanIntern ring.base ring.cap filled.count filled.used (cells room.old) pieces.old ends.old }
+    ensures { Answer result ring.base ring.cap filled.count filled.used (spelled spelling.entry)
         room.old pieces.old ends.old room.new pieces.new ends.new }
 {
-    let found = find(
-        room, base, cap, pieces, ends, count, used, prefix, unit, suffix,
-    );
-    match found {
-        Found::At(k) => Interned::At(k, count, used),
-        Found::Vacant(slot) => add(
-            room, base, cap, pieces, ends, count, used, prefix, unit, suffix, slot,
-        ),
-        Found::Full => Interned::NoRoom,
+    match find(room, ring, pieces, ends, filled, spelling) {
+        Found::At(number) => Ok(Interned { number, filled }),
+        Found::Vacant(slot) => add(room, ring, pieces, ends, filled, spelling, slot),
+        Found::Full => Err(NoRoom),
     }
 }

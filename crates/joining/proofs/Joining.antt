@@ -1,6 +1,6 @@
 -- The laws of a word that is rewritten and whose length is put: the set, its words and the states. Assumes nothing.
 use mathlib.Core.Path.{◌≡◌, refl, sym, ◌∙◌}
-use mathlib.Core.Bool.{Bool}
+use Rattle.std.specs.Prelude.{Option}
 use mathlib.Core.List.{List}
 use Prim.Native.Nat.{ℕ, ◌+◌, ◌-◌, ◌<◌, ◌≤◌}
 use native.Mathlib.Omega.{arith}
@@ -145,8 +145,8 @@ module _ (a b x : ℕ) (w : WordSet) (p : Pairs) (k n kept m : ℕ) (cs ds : Lis
       rw (s.is, z, s.joined, el) joined
 
 -- as the loop ends
-module _ {a b x : ℕ} {w : WordSet} {p : Pairs} {k n start long f kept at left m : ℕ} {has : Bool} {previous : ℕ} {cs ds : List ℕ}
-    (σ : Running a b x w p k n start long f kept at left m has previous cs ds) (h : left ≤ 0) where
+module _ {a b x : ℕ} {w : WordSet} {p : Pairs} {k n start long f kept at left m : ℕ} {previous : Option ℕ} {cs ds : List ℕ}
+    (σ : Running a b x w p k n start long f kept at left m previous cs ds) (h : left ≤ 0) where
   ran : Ran a b x w p k n kept m cs ds
   ran = running_end σ h
 

@@ -1,10 +1,10 @@
 -- The laws of the loop that rewrites a word: its start, a turn, its end. Assumes nothing.
 use mathlib.Core.Path.{◌≡◌, refl, sym, ap, ◌∙◌}
-use mathlib.Core.Bool.{Bool, true, false}
 use mathlib.Core.List.{List, [], ◌∷◌, ◌++◌, map, append-nil, map-append}
 use mathlib.Core.Logic.{◌⊎◌, inl, inr, ⊎_elim}
-use mathlib.Core.Option.{Option}
-use Prim.Native.Nat.{ℕ, ◌+◌, ◌-◌, ◌^◌, ◌<◌, ◌≤◌}
+use mathlib.Core.Option as maybe
+use Rattle.std.specs.Prelude.{Option, Some, None}
+use Prim.Native.Nat.{ℕ, ◌+◌, ◌-◌, ◌<◌, ◌≤◌}
 use native.Mathlib.Omega.{arith}
 use lib.ListN.{length, drop}
 use lib.Seq.{append_snoc}
@@ -36,7 +36,7 @@ base_in a b x w p n cs σ = omega (arith, σ.ok.room)
 
 pub running_start : (a b x : ℕ) (w : WordSet) (p : Pairs) (k n f : ℕ) (cs : List ℕ) (here : Span) → Midway a b x w p n cs → k < w.count
     → f ≡ (entry_at (words_in w cs) k).frequency → Found w k cs here
-    → Running a b x w p k n here.start here.length f 0 here.start here.length n false 0 cs cs
+    → Running a b x w p k n here.start here.length f 0 here.start here.length n None cs cs
 unfolding last_of
 running_start a b x w p k n f cs here σ hk ef g = record {
   midway = σ;
@@ -58,8 +58,8 @@ running_start a b x w p k n f cs here σ hk ef g = record {
         ∙ ap length (word_symbols w cs σ.words k hk)
         ∙ symbols_length (spot w k cs + 2) (size w k cs) cs (omega (arith, σ.words.in_line.last k hk, σ.words.room))
 
-module _ {a b x : ℕ} {w : WordSet} {p : Pairs} {k n start long f kept at left m : ℕ} {has : Bool} {previous : ℕ} {cs ds : List ℕ}
-    (σ : Running a b x w p k n start long f kept at left m has previous cs ds) where
+module _ {a b x : ℕ} {w : WordSet} {p : Pairs} {k n start long f kept at left m : ℕ} {previous : Option ℕ} {cs ds : List ℕ}
+    (σ : Running a b x w p k n start long f kept at left m previous cs ds) where
   abbrev seen : List ℕ
   seen = beneath p.base cs ds
 
@@ -92,11 +92,8 @@ module _ {a b x : ℕ} {w : WordSet} {p : Pairs} {k n start long f kept at left 
   pub running_read : at + left ≤ length ds
   running_read = omega (arith, read_in, fits, same_long)
 
-  pub running_few : 0 < left → kept + 1 < 2 ^ 64
-  running_few h = omega (arith, σ.run.behind, σ.run.ends, σ.run.room, σ.run.small)
-
   -- A STEP, as it is seen below the states
-  module _ (h : 0 < left) {st : Step} (g : Looked a b x has previous at left ds st) where
+  module _ (h : 0 < left) {st : Step} (g : Looked a b x previous at left ds st) where
     same_part : part at left seen ≡ part at left ds
     same_part = beneath-part p.base cs ds same_long fits at left read_in
 
@@ -106,7 +103,7 @@ module _ {a b x : ℕ} {w : WordSet} {p : Pairs} {k n start long f kept at left 
     same_cell : nth seen at ≡ nth ds at
     same_cell = beneath_in p.base cs ds same_long fits at (omega (arith, read_in))
 
-    look : Looked a b x has previous at left seen st
+    look : Looked a b x previous at left seen st
     look = record {
       is = rw same_symbols g.is;
       step = rw same_symbols g.step;
@@ -117,20 +114,20 @@ module _ {a b x : ℕ} {w : WordSet} {p : Pairs} {k n start long f kept at left 
     read_long : length R ≡ left
     read_long = symbols_length at left seen (omega (arith, read_in, fits, seen_long))
 
-    kind : Hits a b x has previous R st ⊎ Keeps R st
-    kind = step_kind a b x has previous R st (omega (arith, read_long)) look.is
+    kind : Hits a b x previous R st ⊎ Keeps R st
+    kind = step_kind a b x previous R st (omega (arith, read_long)) look.is
 
     -- the reports of a step that rewrites are those of the pair behind P
-    tells : Hits a b x has previous R st → reports_of a b x st ≡ before a x (last_of P) ++ after b x (drop 2 R)
-    tells e = e.tells ∙ ap (λ (o : Option ℕ). before a x o ++ after b x (drop 2 R)) σ.last
+    tells : Hits a b x previous R st → reports_of a b x st ≡ before a x (last_of P) ++ after b x (drop 2 R)
+    tells e = e.tells ∙ ap (λ (o : maybe.Option ℕ). before a x o ++ after b x (drop 2 R)) σ.last
 
-    follows_hit : Hits a b x has previous R st → Following a b x w p k n m (P ++ (a ∷ b ∷ drop 2 R)) cs ds
+    follows_hit : Hits a b x previous R st → Following a b x w p k n m (P ++ (a ∷ b ∷ drop 2 R)) cs ds
     follows_hit e = rw e.front at σ.follows
 
     pub running_tell : CanTell a b x p m st f ds
     running_tell two =
         ⊎_elim
-        (λ (e : Hits a b x has previous R st). rw (tells e, σ.weight) (can_report a b x w p k n cs σ.midway σ.low m P (drop 2 R) ds (follows_hit e)))
+        (λ (e : Hits a b x previous R st). rw (tells e, σ.weight) (can_report a b x w p k n cs σ.midway σ.low m P (drop 2 R) ds (follows_hit e)))
         (λ (e : Keeps R st). absurd (omega (arith, e.took)))
         kind
 
@@ -138,14 +135,14 @@ module _ {a b x : ℕ} {w : WordSet} {p : Pairs} {k n start long f kept at left 
       kept_told : Kept p.base (beyond p) ds es
       kept_told =
           ⊎_elim
-          (λ (e : Hits a b x has previous R st). (t.hit e.took).kept)
+          (λ (e : Hits a b x previous R st). (t.hit e.took).kept)
           (λ (e : Keeps R st). rw (t.keep (λ two. omega (arith, e.took))).0 (kept_none p.base (beyond p) ds))
           kind
 
       told : Following a b x w p k n m' (P ++ (st.symbol ∷ drop st.took R)) cs es
       told = ⊎_elim hits keeps kind
         where
-          hits : Hits a b x has previous R st → Following a b x w p k n m' (P ++ (st.symbol ∷ drop st.took R)) cs es
+          hits : Hits a b x previous R st → Following a b x w p k n m' (P ++ (st.symbol ∷ drop st.took R)) cs es
           hits e =
               rw (e.symbol, e.took)
               (follow_hit a b x w p k n cs σ.midway σ.low m P (drop 2 R) ds (follows_hit e) m' es (rw (tells e, σ.weight) at (t.hit e.took)))
@@ -162,17 +159,11 @@ module _ {a b x : ℕ} {w : WordSet} {p : Pairs} {k n start long f kept at left 
       written_in : start + kept < at + left
       written_in = omega (arith, σ.run.behind)
 
-      pub running_cell : at < length es
-      running_cell = omega (arith, running_read, kept_told.long)
-
-      pub running_place : start + kept < length es
-      running_place = omega (arith, written_in, running_read, kept_told.long)
-
       -- what the step leaves holds its symbol
       left_symbol : symbol_in (leaves st (nth seen at)) ≡ st.symbol
       left_symbol = ⊎_elim hits keeps kind
         where
-          hits : Hits a b x has previous R st → symbol_in (leaves st (nth seen at)) ≡ st.symbol
+          hits : Hits a b x previous R st → symbol_in (leaves st (nth seen at)) ≡ st.symbol
           hits e =
               rw (← leaves_symbol st (nth seen at) (λ one. omega (arith, e.took)), e.symbol)
               (symbol_alone x (omega (arith, σ.midway.new)))
@@ -221,14 +212,14 @@ module _ {a b x : ℕ} {w : WordSet} {p : Pairs} {k n start long f kept at left 
             )
             (symbols_drop st.took (part at left seen))
 
-        pub running_turn : Running a b x w p k n start long f (kept + 1) (at + st.took) (left - st.took) m' true st.symbol cs fs
+        pub running_turn : Running a b x w p k n start long f (kept + 1) (at + st.took) (left - st.took) m' (Some st.symbol) cs fs
         running_turn = record {
           midway = σ.midway;
           low = σ.low;
           place = σ.place;
           many = σ.many;
           weight = σ.weight;
-          run = run_turn a b x start long kept at left cs seen σ.run h has previous st look c cell_is then then_is;
+          run = run_turn a b x start long kept at left cs seen σ.run h previous st look c cell_is then then_is;
           follows = rw (wrote, rest, append_snoc)
               (follow-put a b x w p k n cs σ.midway σ.low m' (P ++ (st.symbol ∷ drop st.took R)) es told (start + kept) c
               (omega (arith, begins)) (omega (arith, written_in, read_in)) fs ef);

@@ -6,23 +6,20 @@ use mathlib.Core.Logic.{◌⊎◌, inl, inr}
 use mathlib.Core.Option.{some}
 use Prim.Native.Nat.{ℕ, zero, suc, ◌+◌, ◌<◌}
 use native.Mathlib.Omega.{arith}
-use lib.Dec.{ltb}
 use lib.ListN.{length, drop}
-use borrow.Author.Tests.{lt-ltb}
+use Rattle.std.specs.Prelude.{Option, slice_get}
 use Rattle.runs.specs.Parts.{nth}
 use Rattle.runs.proofs.Parts.{below_or_not}
 use Rattle.rule.specs.Rewriting.{is_pair, before, after}
 use Rattle.rule.specs.Sums.{Under, raised}
 use Rattle.rule.proofs.Rewriting.{pair_true}
-use Rattle.step.specs.Step.{rewrites_to, step_by, step_of, standing, reports_of}
+use Rattle.step.specs.Step.{rewrites_to, starts_pair, step_by, step_of, standing, reports_of}
 use Rattle.step.specs.declared.Step.{Step}
 use Rattle.word.specs.Layout.{symbol_in}
 use Rattle.states.specs.State.{most}
 use Rattle.states.specs.Tracking.{last_of, Small}
 use Rattle.states.proofs.Gains.{hit_holds}
-use Rattle.pairs.specs.declared.Pairs.{Pairs}
-use Rattle.reports.specs.Reports.{ReportDone}
-use Rattle.joining.specs.Running.{Told, Keeps, Hits}
+use Rattle.joining.specs.Running.{Keeps, Hits}
 
 -- the first symbol, and the symbols without the first ones
 pub first_is : (l : List ℕ) (s : ℕ) (r : List ℕ) → l ≡ s ∷ r → nth l 0 ≡ s
@@ -35,27 +32,23 @@ symbols_drop (suc n) [] = refl
 symbols_drop (suc n) (c ∷ l) = symbols_drop n l
 
 -- THE KIND OF A STEP
-module _ (a b x : ℕ) (has : Bool) (previous : ℕ) where
-  kind : (l : List ℕ) → 0 < length l → Hits a b x has previous l (step_of a b x has previous l) ⊎ Keeps l (step_of a b x has previous l)
-  unfolding step_of step_by nth reports_of before after
+module _ (a b x : ℕ) (previous : Option ℕ) where
+  kind : (l : List ℕ) → 0 < length l → Hits a b x previous l (step_of a b x previous l) ⊎ Keeps l (step_of a b x previous l)
+  unfolding step_of step_by starts_pair nth reports_of before after
   kind [] h = absurd (omega arith)
   kind (s ∷ []) h = inr (record { took = refl; front = refl })
   kind (s ∷ t ∷ r) h = go (is_pair a b s t) refl
     where
-      two : ltb 1 (suc (suc (length r))) ≡ true
-      two = lt-ltb 1 (suc (suc (length r))) (omega arith)
+      tells : (r' : List ℕ) → reports_of a b x (rewrites_to x previous (slice_get r' 0)) ≡ before a x (standing previous) ++ after b x r'
+      tells [] = refl
+      tells (n ∷ r') = refl
 
-      tells : (r' : List ℕ) → r' ≡ r → reports_of a b x (rewrites_to x has previous (ltb 2 (suc (suc (length r')))) (nth r' 0)) ≡ before a x (standing has previous) ++ after b x r'
-      tells [] e = refl
-      tells (n ∷ r') e = rw (lt-ltb 2 (suc (suc (suc (length r')))) (omega arith))
-
-      go : (c : Bool) → is_pair a b s t ≡ c → Hits a b x has previous (s ∷ t ∷ r) (step_of a b x has previous (s ∷ t ∷ r)) ⊎ Keeps (s ∷ t ∷ r) (step_of a b x has previous (s ∷ t ∷ r))
+      go : (c : Bool) → is_pair a b s t ≡ c → Hits a b x previous (s ∷ t ∷ r) (step_of a b x previous (s ∷ t ∷ r)) ⊎ Keeps (s ∷ t ∷ r) (step_of a b x previous (s ∷ t ∷ r))
       go true e =
-          rw (two, e)
-          (inl (record { took = refl; front = rw ((pair_true a b s t e).0, (pair_true a b s t e).1); symbol = refl; tells = tells r refl }))
-      go false e = rw (two, e) (inr (record { took = refl; front = refl }))
+          rw e (inl (record { took = refl; front = rw ((pair_true a b s t e).0, (pair_true a b s t e).1); symbol = refl; tells = tells r }))
+      go false e = rw e (inr (record { took = refl; front = refl }))
 
-  pub step_kind : (l : List ℕ) (st : Step) → 0 < length l → st ≡ step_of a b x has previous l → Hits a b x has previous l st ⊎ Keeps l st
+  pub step_kind : (l : List ℕ) (st : Step) → 0 < length l → st ≡ step_of a b x previous l → Hits a b x previous l st ⊎ Keeps l st
   step_kind l st h e = rw e (kind l h)
 
 -- THE SYMBOL WRITTEN LAST
@@ -93,11 +86,3 @@ module _ (a b x : ℕ) (ha : a < x) (hb : b < x) (hx : x < most) where
       no : (a ≡ x) ⊎ (b ≡ x) → ⊥
       no (inl e) = omega arith
       no (inr e) = omega arith
-
--- A STEP TOLD, on either way
-module _ (a b x : ℕ) (p : Pairs) (n : ℕ) (st : Step) (f k : ℕ) (cs : List ℕ) where
-  pub told-keep : (st.took ≡ 2 → ⊥) → Told a b x p n st f k cs cs n
-  told-keep h = record { hit = λ two. absurd (h two); keep = λ _. (refl, refl) }
-
-  pub told_hit : st.took ≡ 2 → (ds : List ℕ) (m : ℕ) → ReportDone p n (reports_of a b x st) f k cs ds m → Told a b x p n st f k cs ds m
-  told_hit two ds m d = record { hit = λ _. d; keep = λ h. absurd (h two) }

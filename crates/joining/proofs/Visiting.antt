@@ -1,14 +1,13 @@
 -- The laws of visiting the words of a pair's list: how many at a time, a word, one stretch of the list behind another, the end, where no word holds the
 -- pair. Assumes nothing.
-use borrow.Author.Tests.{lt-ltb, le-ltb}
 use mathlib.Core.Path.{◌≡◌, refl, sym, ap, ◌∙◌}
 use mathlib.Core.List.{List}
-use Prim.Native.Nat.{ℕ, ◌+◌, ◌-◌, ◌^◌, ◌<◌, ◌≤◌}
+use Prim.Native.Nat.{ℕ, ◌+◌, ◌^◌, ◌<◌, ◌≤◌}
 use native.Mathlib.Omega.{arith}
 use lib.ListN.{length}
 use Rattle.runs.specs.Parts.{nth, put}
 use Rattle.runs.proofs.Parts.{same_or_not, below_or_not, nth-put, nth-put_other}
-use Rattle.runs.proofs.Frames.{kept_none, kept_then, kept_wide}
+use Rattle.runs.proofs.Frames.{kept_then, kept_wide}
 use Rattle.rule.specs.Rewriting.{rewrite, count_in}
 use Rattle.rule.specs.Seeding.{Entry}
 use Rattle.rule.specs.Training.{rewrite_all}
@@ -33,27 +32,13 @@ use Rattle.joining.proofs.Words.{frequency_change, rewrite_twice, rewrite_all_no
 
 -- HOW MANY AT A TIME
 module _ {n : ℕ} where
-  pub together_all : n < 16 → n ≡ together n
-  unfolding together
-  together_all l = rw (lt-ltb n 16 l)
-
-  pub together-part : 16 ≤ n → 16 ≡ together n
-  unfolding together
-  together-part l = rw (le-ltb n 16 l)
-
   pub together-within : {m : ℕ} → m ≡ together n → (m ≤ n) × (m ≤ 16) × (0 < n → 0 < m)
-  together-within e =
-      below_or_not n 16
-      (λ l. let t = together_all l in (omega arith, omega arith, λ h. omega arith))
-      (λ l. let t = together-part l in (omega arith, omega arith, λ h. omega arith))
+  together-within e = (omega arith, omega arith, λ h. omega arith)
 
 -- as the code has the pair's key, c, and how many words its list has
 module _ {k c : ℕ} (e : c ≡ k) (p : Pairs) (cs : List ℕ) where
   pub has_key : {r : ℕ} → Has p k r cs → Has p c r cs
   has_key h = rw e h
-
-  pub list_length : {n : ℕ} → n ≡ length (state p cs c).words → n ≡ length (state p cs k).words
-  list_length h = rw e at h
 
 -- THE FREQUENCIES, one word after the other
 module _ {w : WordSet} {p : Pairs} {c r i n : ℕ} {cs : List ℕ} (h : CanLook w p c r i n cs) where
@@ -65,30 +50,12 @@ module _ {w : WordSet} {p : Pairs} {c r i n : ℕ} {cs : List ℕ} (h : CanLook 
     pub look_at : i + j < length (state p cs c).words
     look_at = omega (arith, h.low)
 
-    pub look_word : {k : ℕ} → k ≡ nth (state p cs c).words (i + j) → k < w.count
-    look_word e = rw e (h.inside j l)
-
     pub weights_more : {k f : ℕ} (fs : List ℕ) → length fs ≡ 16 → Weights w p c i j cs fs → k ≡ nth (state p cs c).words (i + j) → f ≡ (word_of w k cs).frequency
         → Weights w p c i (j + 1) cs (put fs j f)
     weights_more fs long ws ek ef s m =
         same_or_not s j
         (λ (e : s ≡ j). rw e (nth-put fs j _ (omega (arith, h.few)) ∙ ef ∙ rw ek))
         (λ d. nth-put_other fs j _ s d ∙ ws s (omega arith))
-
--- NO WORD YET
-pub visiting_start : (a b x : ℕ) (w : WordSet) (p : Pairs) (r i n : ℕ) (cs : List ℕ) → Midway a b x w p n cs → Has p (key a b) r cs → Visiting a b x w p r i i n w cs cs
-visiting_start a b x w p r i n cs σ h = record {
-  midway = σ;
-  has = h;
-  numbers = record { starts_is = refl; count_is = refl; low_is = refl; top_is = refl; live_is = refl };
-  view = refl;
-  weights = λ k. refl;
-  done = λ s l m. absurd (omega arith);
-  still = λ k z. z;
-  list = refl;
-  records = λ q v z e. e;
-  kept = kept_none w.low (beyond p) cs;
-}
 
 -- A WORD OF THE LIST
 module _ {a b x : ℕ} {w : WordSet} {p : Pairs} {n : ℕ} {cs : List ℕ} (σ : Midway a b x w p n cs) where
@@ -169,9 +136,6 @@ module _ {a b x : ℕ} {w : WordSet} {p : Pairs} {r i j m : ℕ} {v : WordSet} {
 
   -- the word that is next, as the code reads it; c is the pair's key
   module _ {c : ℕ} (ec : c ≡ key a b) (l : j < length visited) where
-    pub visiting_low : j < length (state p ds c).words
-    visiting_low = rw (ec, σ.list) l
-
     module _ {k : ℕ} (ek : k ≡ nth (state p ds c).words j) where
       next : k ≡ nth (state p ds (key a b)).words j
       next = rw ec at ek
@@ -184,11 +148,6 @@ module _ {a b x : ℕ} {w : WordSet} {p : Pairs} {r i j m : ℕ} {v : WordSet} {
 
       pub visiting_turn : {es : List ℕ} {d : Joined} → JoinedWord a b x v p k ds es d → Visiting a b x w p r i (j + 1) d.touched d.words cs es
       visiting_turn g = visiting_then (visiting_word σ.midway σ.has (rw σ.list l) next g)
-
-  -- the words that are next
-  module _ {many some : ℕ} (en : many ≡ length visited) (l : j < many) (es : some ≡ together (many - j)) where
-    pub visiting_some : j + some ≤ length (state p ds (key a b)).words
-    visiting_some = rw σ.list (omega (arith, (together-within {n = many - j} es).0))
 
   -- where the whole list is visited, no word holds the pair
   pub visiting_end : i ≡ 0 → length visited ≤ j → JoinedAll a b x w p cs ds (record { words = v; touched = m })

@@ -1,5 +1,5 @@
 -- A word while it is rewritten: what is written and what is still to be read are one list of symbols, which the states of the pairs follow.
-use Rattle.std.specs.Prelude.{◌≡◌, Bool, List, ◌∷◌, ◌++◌, ℕ, ◌+◌, ◌-◌, ◌*◌, ◌<◌, ◌≤◌, length, drop}
+use Rattle.std.specs.Prelude.{◌≡◌, Option, List, ◌∷◌, ◌++◌, ℕ, ◌+◌, ◌-◌, ◌*◌, ◌<◌, ◌≤◌, length, drop}
 use Rattle.runs.specs.Parts.{nth, put, part, laid, Kept}
 use Rattle.rule.specs.Rewriting.{before, after, rewrite}
 use Rattle.rule.specs.Seeding.{Entry}
@@ -46,11 +46,11 @@ pub record Keeps (l : List ℕ) (st : Step) : Type 0 where
   pub took : st.took ≡ 1
   pub front : l ≡ st.symbol ∷ drop 1 l
 
-pub record Hits (a b x : ℕ) (has : Bool) (previous : ℕ) (l : List ℕ) (st : Step) : Type 0 where
+pub record Hits (a b x : ℕ) (previous : Option ℕ) (l : List ℕ) (st : Step) : Type 0 where
   pub took : st.took ≡ 2
   pub front : l ≡ a ∷ b ∷ drop 2 l
   pub symbol : st.symbol ≡ x
-  pub tells : reports_of a b x st ≡ before a x (standing has previous) ++ after b x (drop 2 l)
+  pub tells : reports_of a b x st ≡ before a x (standing previous) ++ after b x (drop 2 l)
 
 -- THE STATES FOLLOW word k, which has the symbols l now, of the words in cs; n pairs were touched then, and m are now. Each symbol that is gone pays for
 -- two entries and four touches
@@ -68,7 +68,7 @@ pub record Following (a b x : ℕ) (w : WordSet) (p : Pairs) (k n m : ℕ) (l cs
   pub kept : Kept w.low (beyond p) cs ds
 
 -- WHILE IT IS REWRITTEN: its cells, seen alone, are as in any such run, and the states follow what is written and what is still to be read
-pub record Running (a b x : ℕ) (w : WordSet) (p : Pairs) (k n start long f kept at left m : ℕ) (has : Bool) (previous : ℕ) (cs ds : List ℕ) : Type 0 where
+pub record Running (a b x : ℕ) (w : WordSet) (p : Pairs) (k n start long f kept at left m : ℕ) (previous : Option ℕ) (cs ds : List ℕ) : Type 0 where
   pub midway : Midway a b x w p n cs
   pub low : k < w.count
   pub place : start ≡ spot w k cs + 2
@@ -76,7 +76,7 @@ pub record Running (a b x : ℕ) (w : WordSet) (p : Pairs) (k n start long f kep
   pub weight : f ≡ (word_of w k cs).frequency
   pub run : Run a b x start long kept at left cs (beneath p.base cs ds)
   pub follows : Following a b x w p k n m (symbols_at start kept (beneath p.base cs ds) ++ symbols_at at left (beneath p.base cs ds)) cs ds
-  pub last : standing has previous ≡ last_of (symbols_at start kept (beneath p.base cs ds))
+  pub last : standing previous ≡ last_of (symbols_at start kept (beneath p.base cs ds))
 
 -- word k is rewritten but for its length: it has `kept` symbols, and m pairs are touched
 pub record Ran (a b x : ℕ) (w : WordSet) (p : Pairs) (k n kept m : ℕ) (cs ds : List ℕ) : Type 0 where

@@ -1,5 +1,5 @@
 -- The words of a pair's list while they are visited.
-use Rattle.std.specs.Prelude.{◌≡◌, cond, List, ℕ, ◌+◌, ◌<◌, ◌≤◌, ltb, length}
+use Rattle.std.specs.Prelude.{◌≡◌, List, ℕ, ◌+◌, ◌<◌, ◌≤◌, min, length}
 use Rattle.runs.specs.Parts.{nth, Kept}
 use Rattle.rule.specs.Rewriting.{count_in}
 use Rattle.rule.specs.Training.{rewrite_all}
@@ -14,8 +14,8 @@ use Rattle.joining.specs.Joining.{Midway}
 use Rattle.joining.specs.Running.{word_of}
 
 -- of n words that are left, so many are visited next
-unfoldable pub together : ℕ → ℕ
-together n = cond (ltb n 16) n 16
+abbrev pub together : ℕ → ℕ
+together n = min n 16
 
 -- THE FREQUENCIES of n words of the list of a pair, from the i-th on. The pair's key is c, its record r
 pub record CanLook (w : WordSet) (p : Pairs) (c r i n : ℕ) (cs : List ℕ) : Type 0 where

@@ -1,8 +1,9 @@
 -- All regions of all stages fit into the work room that document 01 asks for, and no two of a stage overlap. Assumes nothing.
 use mathlib.Core.Path.{◌≡◌, refl}
-use Prim.Native.Nat.{ℕ, suc, ◌+◌, ◌*◌, ◌/◌, ◌^◌, ◌<◌, ◌≤◌}
+use Prim.Native.Nat.{ℕ, ◌+◌, ◌*◌, ◌/◌, ◌<◌, ◌≤◌}
 use native.Mathlib.Omega.{arith}
 use borrow.Author.Tests.{lt-ltb, le-ltb}
+use Rattle.std.specs.Prelude.{min}
 use Rattle.runs.proofs.Parts.{below_or_not}
 use Rattle.rule.specs.Table.{room_for}
 use Rattle.layout.specs.Layout.{slots_for, IndexSize, gathering, seeding, training, cells_for, Behind}
@@ -16,6 +17,12 @@ slots_few u h = rw (lt-ltb u 1114368 h)
 pub slots_many : (u : ℕ) → 1114368 ≤ u → 2228737 ≡ slots_for u
 unfolding slots_for
 slots_many u h = rw (le-ltb u 1114368 h)
+
+pub slots_least : (u : ℕ) → 2 * min u 1114368 + 1 ≡ slots_for u
+slots_least u =
+    below_or_not u 1114368
+    (λ h. let m : min u 1114368 ≡ u = omega arith in rw m (slots_few u h))
+    (λ h. let m : min u 1114368 ≡ 1114368 = omega arith in rw m (slots_many u h))
 
 -- as many slots as can be needed, and no more than twice the units
 pub slots_bounds : (u d : ℕ) → d ≤ u → d ≤ 1114368 → (d < slots_for u) × (slots_for u ≤ 2 * u + 1) × (slots_for u ≤ 2228737)
@@ -42,20 +49,3 @@ seeding_fits u first a h = (refl, (omega arith, (refl, (refl, omega arith))))
 pub training_fits : (u a cap : ℕ) → IndexSize u cap → Behind 0 (cells_for u a) (training u cap)
 unfolding Behind
 training_fits u a cap i = let h = i.below in (refl, (omega arith, (refl, (refl, (omega arith, (omega arith, (omega arith, omega arith)))))))
-
--- THE SLOTS OF THE INDEX: doubled from 1 until they are above the records
-
--- what is doubled while it is not above m, from 1 on
-pub record Doubling (m cap : ℕ) : Type 0 where
-  pub below : cap ≤ 2 * m + 1
-  pub exponent : ℕ
-  pub power : cap ≡ 2 ^ exponent
-
-pub doubling_start : (m : ℕ) → Doubling m 1
-doubling_start m = record { below = omega arith; exponent = 0; power = refl }
-
-pub doubling_more : (m cap : ℕ) → Doubling m cap → cap ≤ m → Doubling m (cap * 2)
-doubling_more m cap d h = record { below = omega arith; exponent = suc d.exponent; power = rw d.power (omega arith) }
-
-pub doubled : (u cap : ℕ) → Doubling (3 * u) cap → 3 * u < cap → IndexSize u cap
-doubled u cap d h = record { above = h; below = omega (arith, d.below); exponent = d.exponent; power = d.power }

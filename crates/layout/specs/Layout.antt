@@ -1,6 +1,10 @@
 -- THE LAYOUT OF THE WORK ROOM, in cells of 64 bits, of u units and a symbols of the alphabet. `room_for` bytes of document 01 are 64 * (u + a) + 4096 cells.
 use Rattle.std.specs.Prelude.{◌≡◌, cond, List, [], ◌∷◌, ℕ, ◌+◌, ◌*◌, ◌/◌, ◌^◌, ◌<◌, ◌≤◌, ltb}
 
+-- no word has more units than bytes, and the words of a table have at most 2 ^ 28 bytes
+abbrev pub FewUnits : ℕ → Type 0
+FewUnits u = u ≤ 268435456
+
 -- a region: where it begins, and its cells
 pub record Region : Type 0 where
   pub at : ℕ

@@ -16,9 +16,11 @@ use Rattle.rule.specs.Layout.{piece_bytes, piece_records, piece_shape}
 use Rattle.rule.specs.Sums.{Under}
 use Rattle.rule.proofs.Lengths.{length-piece_bytes}
 use Rattle.rule.proofs.Reading.{numbers_back, parts_back, ends_under, layout_shape}
-use Rattle.lines.specs.declared.Parsed.TheVariants.{NoRoom, TooLong, BadLine, Table}
+use Rattle.std.specs.Prelude.{Err}
+use Rattle.lines.specs.declared.Parsed.{Parsed}
+use Rattle.lines.specs.declared.ParseError.TheVariants.{NoRoom, TooLong, BadLine}
 use Rattle.lines.specs.Lines.{lines, is_digit, digits, decimal, word_of, digits_of, frequency_of, well_formed, too_long, bad_among, first_bad}
-use Rattle.lines.specs.Table.{word_bytes, end_bytes, frequency_bytes, no_room, parsed, leaves, Read, Told}
+use Rattle.lines.specs.Table.{word_bytes, end_bytes, frequency_bytes, no_room, table, parsed, leaves, Read, Told}
 use Rattle.lines.proofs.Cuts.{good_first}
 use Rattle.lines.proofs.Judged.{well_few}
 use Rattle.lines.proofs.Writing.{length-end_bytes, length-frequency_bytes, words-short}
@@ -86,12 +88,14 @@ frequencies_back ls h = numbers_back 8 (map frequency_of ls) (omega arith) (freq
 
 -- AN ANSWER THAT IS A TABLE: no test held
 
-table_tests : (a b d : Bool) (bad n m count bytes : ℕ) → cond a NoRoom (cond b TooLong (cond d (BadLine bad) (Table n m))) ≡ Table count bytes
+table_tests : (a b d : Bool) (bad n m count bytes : ℕ) → cond a (Err NoRoom) (cond b (Err TooLong) (cond d (Err (BadLine bad)) (table n m))) ≡ table count bytes
     → (a ≡ false) × (b ≡ false) × (d ≡ false) × (n ≡ count) × (m ≡ bytes)
 table_tests true b d bad n m count bytes e = let z : ◌≡◌ {A = ℕ} 0 1 = cc in absurd (omega arith)
 table_tests false true d bad n m count bytes e = let z : ◌≡◌ {A = ℕ} 0 1 = cc in absurd (omega arith)
 table_tests false false true bad n m count bytes e = let z : ◌≡◌ {A = ℕ} 0 1 = cc in absurd (omega arith)
-table_tests false false false bad n m count bytes e = (refl, refl, refl, cc, cc)
+table_tests false false false bad n m count bytes e =
+    let z : record { count = n; bytes = m } ≡ record { count = count; bytes = bytes } = cc in
+    (refl, refl, refl, ap (λ (x : Parsed). x.count) z, ap (λ (x : Parsed). x.bytes) z)
 
 good_all : (text : List ℕ) → ltb (first_bad text) (length (lines text)) ≡ false → length (lines text) ≤ bad_among (lines text)
 unfolding first_bad
@@ -101,7 +105,7 @@ good_all text e = ltb-false (bad_among (lines text)) (length (lines text)) e
 front : (was is-now new : List ℕ) (n : ℕ) → is-now ≡ laid was 0 new → length new ≡ n → n ≤ length was → part 0 n is-now ≡ new
 front was is-now new n e l h = rw (e, ← l) (part-laid was 0 new (omega arith))
 
-pub read-told : (text : List ℕ) (count bytes : ℕ) (w e f w' e' f' : List ℕ) → Read text (Table count bytes) w e f w' e' f' → Told text count bytes w' e' f'
+pub read-told : (text : List ℕ) (count bytes : ℕ) (w e f w' e' f' : List ℕ) → Read text (table count bytes) w e f w' e' f' → Told text count bytes w' e' f'
 unfolding parsed leaves
 read-told text count bytes w e f w' e' f' r =
     let ls = lines text in

@@ -3,6 +3,7 @@ use mathlib.Core.Path.{◌≡◌, refl, sym, ap, ◌∙◌}
 use mathlib.Core.Bool.{Bool, true, false, cond, not}
 use mathlib.Core.List.{List, [], ◌∷◌}
 use Prim.Native.Nat.{ℕ, suc, ◌+◌, ◌-◌, ◌<◌, ◌≤◌}
+use Rattle.std.specs.Prelude.{Some, None}
 use native.Mathlib.Omega.{arith}
 use lib.Dec.{eqb}
 use lib.ListN.{length, take, drop, length-drop, drop_of_length-le}
@@ -10,7 +11,7 @@ use lib.Seq.{drop-drop, take_all}
 use borrow.Author.Tests.{not-true, not-false}
 use Rattle.rule.specs.Shapes.{first}
 use Rattle.lines.specs.Lines.{ahead, lines, before, well_formed, bad_among, first_bad}
-use Rattle.lines.specs.Places.{place_of, lines_from, Line}
+use Rattle.lines.specs.Places.{place_of, lines_from, Sought, Line}
 
 -- A LINE UP TO AND WITH ITS LF, and the last one that has none
 
@@ -117,13 +118,18 @@ good_first l ls h = go (well_formed l) refl
     go true e = (e, omega (arith, bad_later l ls e))
     go false e = absurd (omega (arith, bad_here l ls e))
 
-module _ (text : List ℕ) (at n m : ℕ) (inv : n + bad_among (lines_from text at) ≡ m) where
+module _ (text : List ℕ) (at n m k : ℕ) (inv : n + bad_among (lines_from text at) ≡ m) (all : n + length (lines_from text at) ≡ k) where
   module _ (r : ℕ) (l : Line text at r) (b : Bool) (e : b ≡ well_formed (take (r - at) (drop at text))) where
-    pub bad_out : not b ≡ true → n ≡ m
-    bad_out t = omega (arith, inv, ap bad_among l.cut, bad_here (take (r - at) (drop at text)) (lines_from text r) (sym e ∙ not-true b t))
+    pub bad_out : not b ≡ true → Sought (Some n) m k
+    unfolding Sought
+    bad_out t = (
+      omega (arith, inv, ap bad_among l.cut, bad_here (take (r - at) (drop at text)) (lines_from text r) (sym e ∙ not-true b t)),
+      omega (arith, all, ap length l.cut),
+    )
 
     pub bad_turn : not b ≡ false → n + 1 + bad_among (lines_from text r) ≡ m
     bad_turn t = omega (arith, inv, ap bad_among l.cut, bad_later (take (r - at) (drop at text)) (lines_from text r) (sym e ∙ not-false b t))
 
-  pub bad_end : length text ≤ at → n ≡ m
-  bad_end h = omega (arith, inv, ap bad_among (lines_over text at h), bad_none)
+  pub bad_end : length text ≤ at → Sought None m k
+  unfolding Sought
+  bad_end h = omega (arith, inv, all, ap bad_among (lines_over text at h), bad_none, ap length (lines_over text at h))

@@ -6,7 +6,7 @@ use Prim.Native.Nat.{ℕ, suc, ◌+◌, ◌-◌, ◌*◌, ◌≤◌}
 use native.Mathlib.Omega.{arith}
 use lib.Dec.{eqb}
 use lib.ListN.{length, take, drop, length-append, length-map}
-use Rattle.runs.specs.Parts.{part, laid}
+use Rattle.runs.specs.Parts.{laid}
 use Rattle.runs.proofs.Parts.{laid_none, laid-laid, length-laid}
 use Rattle.numbers.specs.Little.{spell, store}
 use Rattle.numbers.proofs.Little.{length-spell}
@@ -54,8 +54,8 @@ word_take line = before-take 32 line
 -- ONE LINE: s is where its space stands, v the value behind it
 
 pub wrote : (line w e f w' e' f' : List ℕ) (n used s v : ℕ) → s ≡ place_of 32 line 0 → v ≡ value_at line 0 (s + 1)
-    → w' ≡ laid w used (part 0 s line) → e' ≡ store 4 e (n * 4) (used + s) → f' ≡ store 8 f (n * 8) v → Wrote line n used (used + s) w e f w' e' f'
-unfolding value_at frequency_of digits_of part
+    → w' ≡ laid w used (take s line) → e' ≡ store 4 e (n * 4) (used + s) → f' ≡ store 8 f (n * 8) v → Wrote line n used (used + s) w e f w' e' f'
+unfolding value_at frequency_of digits_of
 wrote line w e f w' e' f' n used s v p q a b d =
     let z = space_is line s p in
     let t : take s line ≡ word_of line = rw z (word_take line) in

@@ -1,5 +1,5 @@
 -- What a pass over a text carries: places in it, and the lines that are still to come.
-use Rattle.std.specs.Prelude.{◌≡◌, true, List, ◌∷◌, ℕ, ◌+◌, ◌-◌, ◌*◌, ◌^◌, ◌<◌, ◌≤◌, length, take, drop}
+use Rattle.std.specs.Prelude.{◌≡◌, true, List, ◌∷◌, ℕ, ◌+◌, ◌-◌, ◌*◌, ◌^◌, ◌<◌, ◌≤◌, length, take, drop, Option, MatchOption}
 use Rattle.runs.specs.Parts.{laid}
 use Rattle.numbers.specs.Little.{store}
 use Rattle.lines.specs.Lines.{lines, before, digits, decimal, word_of, frequency_of, well_formed, bad_among}
@@ -24,6 +24,10 @@ Fits run v i = (v + 1) * 10 ^ length (digits (drop i run)) ≤ 10 ^ 18
 -- the lines from a place on, where one begins
 unfoldable pub lines_from : List ℕ → ℕ → List (List ℕ)
 lines_from text at = lines (drop at text)
+
+-- the place of the first of n that is sought, if there is one: it is `at`, and without one `at` is n
+unfoldable pub Sought : Option ℕ → ℕ → ℕ → Type 0
+Sought r at n = MatchOption r (n ≤ at) (λ i. (i ≡ at) × (i < n))
 
 -- the line at `at` goes to r
 pub record Line (text : List ℕ) (at r : ℕ) : Type 0 where

@@ -1,12 +1,13 @@
 -- What reading a text as a word table answers, and what is in the three lent runs then.
-use Rattle.std.specs.Prelude.{◌≡◌, Bool, true, cond, ◌||◌, ℕ, ◌+◌, ◌*◌, ltb, length}
+use Rattle.std.specs.Prelude.{◌≡◌, Bool, true, cond, ◌||◌, ℕ, ◌+◌, ◌*◌, ltb, length, Result, Ok, Err}
 use mathlib.Core.List.{List, map, flat_map}
 use Rattle.runs.specs.Parts.{part, laid}
 use Rattle.numbers.specs.Little.{numbers}
 use Rattle.rule.specs.Shapes.{spell_all, ends_from, parts_by, shaped}
 use Rattle.lines.specs.Lines.{lines, word_of, frequency_of, too_long, first_bad}
 use Rattle.lines.specs.declared.Parsed.{Parsed}
-use Rattle.lines.specs.declared.Parsed.TheVariants.{NoRoom, TooLong, BadLine, Table}
+use Rattle.lines.specs.declared.ParseError.{ParseError}
+use Rattle.lines.specs.declared.ParseError.TheVariants.{NoRoom, TooLong, BadLine}
 
 -- "the word bytes end to end"
 unfoldable pub word_bytes : List (List ℕ) → List ℕ
@@ -24,24 +25,26 @@ frequency_bytes ls = spell_all 8 (map frequency_of ls)
 unfoldable pub no_room : ℕ → ℕ → ℕ → Bool
 no_room words ends frequencies = ltb words 1024 || (ltb ends 256 || ltb frequencies 512)
 
+-- the answer that is a table
+abbrev pub table : ℕ → ℕ → Result Parsed ParseError
+table count bytes = Ok (record { count = count; bytes = bytes })
+
 -- "Over 1,024 bytes or 64 lines it writes `too long`; else for the first malformed line `bad line N` from 1"; else how many words and bytes there are.
 -- A run that is too short is told before all of this.
-unfoldable pub parsed : List ℕ → ℕ → ℕ → ℕ → Parsed
+unfoldable pub parsed : List ℕ → ℕ → ℕ → ℕ → Result Parsed ParseError
 parsed text words ends frequencies =
-    cond (no_room words ends frequencies) NoRoom (
-    cond (too_long text) TooLong (
-    cond (ltb (first_bad text) (length (lines text))) (BadLine (first_bad text + 1)) (
-    Table (length (lines text)) (length (word_bytes (lines text))))))
+    cond (no_room words ends frequencies) (Err NoRoom) (
+    cond (too_long text) (Err TooLong) (
+    cond (ltb (first_bad text) (length (lines text))) (Err (BadLine (first_bad text + 1))) (
+    table (length (lines text)) (length (word_bytes (lines text))))))
 
 -- what an answer leaves of a run: a table is laid at its start, any other leaves it as it was
-unfoldable pub leaves : Parsed → List ℕ → List ℕ → List ℕ
-leaves NoRoom was new = was
-leaves TooLong was new = was
-leaves (BadLine n) was new = was
-leaves (Table count bytes) was new = laid was 0 new
+unfoldable pub leaves : Result Parsed ParseError → List ℕ → List ℕ → List ℕ
+leaves (Ok t) was new = laid was 0 new
+leaves (Err why) was new = was
 
 -- the answer r to a text, and the three runs before and after it
-pub record Read (text : List ℕ) (r : Parsed) (w e f w' e' f' : List ℕ) : Type 0 where
+pub record Read (text : List ℕ) (r : Result Parsed ParseError) (w e f w' e' f' : List ℕ) : Type 0 where
   pub is : r ≡ parsed text (length w) (length e) (length f)
   pub words : w' ≡ leaves r w (word_bytes (lines text))
   pub ends : e' ≡ leaves r e (end_bytes 0 (lines text))

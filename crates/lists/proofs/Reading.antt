@@ -21,13 +21,13 @@ use Rattle.lists.specs.Lists.{kind_of, length_of, listed, Loaded}
 use Rattle.lists.specs.declared.WordList.{WordList}
 use Rattle.lists.specs.declared.WordList.TheVariants.{Short, Spilled}
 
-pub kind_short : (n at : ℕ) → n ≤ 4 → Short n ≡ kind_of n at
+pub kind_short : (n : ℕ) (near : List ℕ) → n ≤ 4 → Short n near ≡ kind_of n near
 unfolding kind_of
-kind_short n at h = rw (le-ltb 4 n h)
+kind_short n near h = rw (le-ltb 4 n h)
 
-pub kind_long : (n at : ℕ) → 4 < n → Spilled at n ≡ kind_of n at
+pub kind_long : (n : ℕ) (near : List ℕ) → 4 < n → Spilled (nth near 0) n ≡ kind_of n near
 unfolding kind_of
-kind_long n at h = rw (lt-ltb 4 n h)
+kind_long n near h = rw (lt-ltb 4 n h)
 
 -- A LIVE RECORD was taken: the words in it are its fields from the fourth on
 pub near_cell : (p : Pairs) (r : ℕ) (cs : List ℕ) → 0 < key_in p cs r → (j : ℕ) → nth cs (arena_at p + 3 + r * 8 + 4 + j) ≡ field (arena_at p) cs r (4 + j)
@@ -72,17 +72,20 @@ module _ (p : Pairs) (k r : ℕ) (cs : List ℕ) (h : Has p k r cs) where
     pub word_low : j < n
     word_low = omega (arith, words-many)
 
-    pub word_short : (x : ℕ) → n ≤ 4 → x ≡ nth cs (arena_at p + 3 + r * 8 + 4 + j) → x ≡ nth (state p cs k).words j
-    word_short x f q = q ∙ sym (rw (words-short (omega arith)) (nth-part _ _ cs j (omega (arith, word_low))))
+    pub word_short : (x : ℕ) → n ≤ 4 → x ≡ field (arena_at p) cs r (4 + j) → x ≡ nth (state p cs k).words j
+    word_short x f q =
+        q
+        ∙ sym (near_cell p r cs (has_live p k r cs h) j)
+        ∙ sym (rw (words-short (omega arith)) (nth-part _ _ cs j (omega (arith, word_low))))
+
+    pub short_low : n ≤ 4 → 4 + j < 8
+    short_low f = omega (arith, word_low)
 
     pub word_long_lem : (x at : ℕ) → 4 < n → at ≡ place p cs r → x ≡ nth cs (data_at p + at + j) → x ≡ nth (state p cs k).words j
     word_long_lem x at f a q = q ∙ sym (rw (words_long (omega arith), a) (nth-part _ _ cs j (omega (arith, word_low))))
 
     pub long_room : (at : ℕ) → 4 < n → at ≡ place p cs r → data_at p + at + j < length cs
     long_room at f a = omega (arith, word_low, run_fits (omega arith))
-
-    pub short_room : n ≤ 4 → arena_at p + 3 + r * 8 + 4 + j < length cs
-    short_room f = omega (arith, word_low, short_fits (omega arith))
 
   -- THE LAST ONE
   pub last_low : (n : ℕ) → n ≡ many p cs r → (n ≡ 0 → ⊥) → n - 1 < length (state p cs k).words
@@ -118,17 +121,17 @@ module _ (p : Pairs) (k r : ℕ) (cs : List ℕ) (h : Has p k r cs) where
         let z : 0 + j ≡ j = omega arith in
         nth-part 0 n _ j (omega (arith, l)) ∙ (rw z (near_are j (omega (arith, l)))) ∙ sym (nth-part _ n cs j (omega (arith, l))))
 
-    listed_words : listed p cs (a ∷ (b ∷ (c ∷ (d ∷ [])))) (kind_of n a) ≡ (state p cs k).words
-    unfolding kind_of listed
+    listed_words : listed p cs (kind_of n (a ∷ (b ∷ (c ∷ (d ∷ []))))) ≡ (state p cs k).words
+    unfolding kind_of listed nth
     listed_words =
         below_or_not 4 n
         (λ f. rw (lt-ltb 4 n f, words_long (omega arith), e, ea))
         (λ f. rw (le-ltb 4 n f) (near_words f ∙ rw (words-short (omega arith), e)))
 
-    listed_many : length_of (kind_of n a) ≡ length (state p cs k).words
+    listed_many : length_of (kind_of n (a ∷ (b ∷ (c ∷ (d ∷ []))))) ≡ length (state p cs k).words
     unfolding kind_of length_of
     listed_many = below_or_not 4 n (λ f. rw (lt-ltb 4 n f, words-many, e)) (λ f. rw (le-ltb 4 n f, words-many, e))
 
-    pub loaded : (count marks : ℕ) (ws : WordList) → count ≡ (state p cs k).count → marks ≡ (state p cs k).marks → ws ≡ kind_of n a
-        → Loaded p k cs (record { count = count; marks = marks; words = ws; near = a ∷ (b ∷ (c ∷ (d ∷ []))) })
+    pub loaded : (count marks : ℕ) (ws : WordList) → count ≡ (state p cs k).count → marks ≡ (state p cs k).marks
+        → ws ≡ kind_of n (a ∷ (b ∷ (c ∷ (d ∷ [])))) → Loaded p k cs (record { count = count; marks = marks; words = ws })
     loaded count marks ws x y z = rw z (record { count = x; marks = y; words = listed_words; many = listed_many })

@@ -1,5 +1,5 @@
-// A pair's list of words as it is read: `WordList` and `PairState` of the original. Up to four words stand in the pair's record, a
-// longer list in a run of cells.
+// A pair's list of words as it is read: `WordList` and `PairState` of the original. Up to four words stand in
+// the pair's record, a longer list in a run of cells.
 #![tactic(auto)]
 
 ghost use Rattle.std.specs.Prelude.{◌≡◌, ◌<◌, length};
@@ -9,12 +9,14 @@ ghost use Rattle.pairs.specs.View.{state};
 ghost use Rattle.pairs.specs.Pairs.{Has};
 ghost use Rattle.lists.specs.Lists.{kind_of, length_of, Loaded};
 
-use pairs::Pairs;
+use fields::{FIRST, MANY, PLACE};
+use pairs::Pair;
 
-// Which kind of list, and how many words. An enum holds no array: the short words stand beside it, the long list at the place.
+// A list of words: so many in a place for four, or the place of a run and how many.
+// Stays: a number beside four places: a record is fixed memory (docs/DECISIONS.md, 68).
 #[derive(Clone, Copy)]
 pub enum WordList {
-    Short(u64),
+    Short(u64, [u64; 4]),
     Spilled(u64, u64),
 }
 
@@ -24,7 +26,6 @@ pub struct PairState {
     pub count: u64,
     pub marks: u8,
     pub words: WordList,
-    pub near: [u64; 4],
 }
 
 // How many words a list has.
@@ -32,63 +33,63 @@ pub fn len(words: WordList) -> u64
     ensures { result ≡ length_of words }
 {
     match words {
-        WordList::Short(n) => n,
+        WordList::Short(n, _) => n,
         WordList::Spilled(_, n) => n,
     }
 }
 
-// Which kind of list n words are.
-fn kind(n: u64, place: u64) -> WordList
-    ensures { result ≡ kind_of n place }
+// Which kind of list n words are, by the last four fields of their record.
+fn kind(n: u64, near: [u64; 4]) -> WordList
+    ensures { result ≡ kind_of n near }
 {
     if n <= 4 {
-        return WordList::Short(n);
+        WordList::Short(n, near)
+    } else {
+        WordList::Spilled(near[0], n)
     }
-    WordList::Spilled(place, n)
 }
 
-// The state of a pair that has the record r.
-fn load(room: &[u8], p: Pairs, key: u64, r: usize) -> PairState
-    requires { Has p key r (cells room.now) }
-    ensures { Loaded p key (cells room.now) result }
+// The state of a pair that has a record.
+// Stays: `Has` in each clause: it ties the numbers of a pair to the cells of a lent room.
+fn load(room: &[u8], pair: Pair) -> PairState
+    requires { Has pair.pairs pair.key pair.number (cells room.now) }
+    ensures { Loaded pair.pairs pair.key (cells room.now) result }
 {
-    let at = p.base + 2 * p.cap;
-    let n = records::get_field(room, at, p.most, r, 3);
-    let a = records::get_field(room, at, p.most, r, 4);
-    let b = records::get_field(room, at, p.most, r, 5);
-    let c = records::get_field(room, at, p.most, r, 6);
-    let d = records::get_field(room, at, p.most, r, 7);
-    let count = fields::count(room, p, key, r);
-    let marks = fields::marks(room, p, key, r);
-    let words = kind(n, a);
+    let n = fields::get(room, pair.pairs, pair.number, MANY);
+    let a = fields::get(room, pair.pairs, pair.number, FIRST);
+    let b = fields::get(room, pair.pairs, pair.number, FIRST + 1);
+    let c = fields::get(room, pair.pairs, pair.number, FIRST + 2);
+    let d = fields::get(room, pair.pairs, pair.number, FIRST + 3);
+    let count = fields::count(room, pair);
+    let marks = fields::marks(room, pair);
+    let words = kind(n, [a, b, c, d]);
     PairState {
-        count: count,
-        marks: marks,
-        words: words,
-        near: [a, b, c, d],
+        count,
+        marks,
+        words,
     }
 }
 
 // The j-th word of its list.
-pub fn word_at(room: &[u8], p: Pairs, key: u64, r: usize, j: usize) -> u64
-    requires { (Has p key r (cells room.now)) × (j < length (state p (cells room.now) key).words) }
-    ensures { result ≡ nth (state p (cells room.now) key).words j }
+pub fn word_at(room: &[u8], pair: Pair, j: usize) -> u64
+    requires { (Has pair.pairs pair.key pair.number (cells room.now))
+        × (j < length (state pair.pairs (cells room.now) pair.key).words) }
+    ensures { result ≡ nth (state pair.pairs (cells room.now) pair.key).words j }
 {
-    let at = p.base + 2 * p.cap;
-    let n = records::get_field(room, at, p.most, r, 3);
+    let n = fields::get(room, pair.pairs, pair.number, MANY);
     if n <= 4 {
-        return cells::cell(room, at + 3 + r * 8 + 4 + j);
+        return fields::get(room, pair.pairs, pair.number, FIRST + j);
     }
-    let place = records::get_field(room, at, p.most, r, 4) as usize;
-    cells::cell(room, at + 3 + p.most * 8 + 2 + place + j)
+    let place = fields::get(room, pair.pairs, pair.number, PLACE) as usize;
+    cells::cell(room, pair.pairs.words() + place + j)
 }
 
 // How many words its list has.
-pub fn words_len(room: &[u8], p: Pairs, key: u64, r: usize) -> u64
-    requires { Has p key r (cells room.now) }
-    ensures { result ≡ length (state p (cells room.now) key).words }
+pub fn words_len(room: &[u8], pair: Pair) -> u64
+    requires { Has pair.pairs pair.key pair.number (cells room.now) }
+    ensures { result ≡ length (state pair.pairs (cells room.now) pair.key).words }
 {
-    let s = load(room, p, key, r);
+    let s = load(room, pair);
     let words = s.words;
     len(words)
 }

@@ -1,3 +1,4 @@
 -- The laws of `marks`.
 pub mod Marks
 pub mod Masks
+pub mod Each

@@ -1,2 +1,3 @@
 -- The definitions of `marks`.
 pub mod Marks
+pub mod Places

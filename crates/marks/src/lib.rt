@@ -4,8 +4,9 @@
 // that the other two marks, and the digits above the three, are as they were.
 #![tactic(auto)]
 
-ghost use Rattle.std.specs.Prelude.{◌≡◌, true, false};
-ghost use Rattle.marks.specs.Marks.{touched, gained, blocked, marked, marking};
+ghost use Rattle.std.specs.Prelude.{◌≡◌, ◌^◌, true, false};
+ghost use Rattle.marks.specs.Marks.{marked, marking};
+ghost use Rattle.marks.specs.Places.{place};
 
 // No mark is set: the marks of a fresh pair.
 pub const NONE: u8 = 0;
@@ -16,59 +17,48 @@ const GAINED: u8 = 2;
 
 const BLOCKED: u8 = 4;
 
-// A merge disturbed this pair.
-pub fn set_touched(m: u8) -> u8
-    ensures { result ≡ marking touched true m }
-{
-    m | TOUCHED
+// What can be told of a pair, each by a digit of its own.
+#[derive(Clone, Copy)]
+pub enum Mark {
+    // A merge disturbed this pair.
+    Touched,
+    // A merge gave this pair to a word.
+    Gained,
+    // The joined piece of this pair would be too long.
+    Blocked,
 }
 
-pub fn clear_touched(m: u8) -> u8
-    ensures { result ≡ marking touched false m }
+// The digit of a mark, alone.
+fn mask(mark: Mark) -> u8
+    ensures { result ≡ 2 ^ place mark }
 {
-    m & !TOUCHED
+    match mark {
+        Mark::Touched => TOUCHED,
+        Mark::Gained => GAINED,
+        Mark::Blocked => BLOCKED,
+    }
 }
 
-pub fn is_touched(m: u8) -> bool
-    ensures { result ≡ marked touched m }
+// The marks with one of them set.
+#[tactic(auto, using(crate::proofs::Each::sets))]
+pub fn set(mark: Mark, m: u8) -> u8
+    ensures { result ≡ marking (place mark) true m }
 {
-    m & TOUCHED != 0
+    m | mask(mark)
 }
 
-// A merge gave this pair to a word.
-pub fn set_gained(m: u8) -> u8
-    ensures { result ≡ marking gained true m }
+// The marks with one of them cleared.
+#[tactic(auto, using(crate::proofs::Each::clears))]
+pub fn clear(mark: Mark, m: u8) -> u8
+    ensures { result ≡ marking (place mark) false m }
 {
-    m | GAINED
+    m & !mask(mark)
 }
 
-pub fn clear_gained(m: u8) -> u8
-    ensures { result ≡ marking gained false m }
+// Tells whether a mark is set.
+#[tactic(auto, using(crate::proofs::Each::tells))]
+pub fn is_set(mark: Mark, m: u8) -> bool
+    ensures { result ≡ marked (place mark) m }
 {
-    m & !GAINED
-}
-
-pub fn is_gained(m: u8) -> bool
-    ensures { result ≡ marked gained m }
-{
-    m & GAINED != 0
-}
-
-// The joined piece of this pair would be too long.
-pub fn set_blocked(m: u8) -> u8
-    ensures { result ≡ marking blocked true m }
-{
-    m | BLOCKED
-}
-
-pub fn clear_blocked(m: u8) -> u8
-    ensures { result ≡ marking blocked false m }
-{
-    m & !BLOCKED
-}
-
-pub fn is_blocked(m: u8) -> bool
-    ensures { result ≡ marked blocked m }
-{
-    m & BLOCKED != 0
+    m & mask(mark) != 0
 }

@@ -3,18 +3,19 @@ use mathlib.Core.Path.{◌≡◌, refl, sym, ap, ◌∙◌}
 use mathlib.Core.Bool.{Bool, true, false}
 use mathlib.Core.List.{List, [], ◌∷◌, ◌++◌, map, append-nil}
 use mathlib.Core.Logic.{◌⊎◌, inl, inr}
-use Prim.Native.Nat.{ℕ, suc, ◌+◌, ◌-◌, ◌^◌, ◌≤◌, ◌<◌}
+use Prim.Native.Nat.{ℕ, ◌+◌, ◌-◌, ◌^◌, ◌≤◌, ◌<◌}
 use native.Mathlib.Omega.{arith}
-use lib.Dec.{ltb}
 use lib.ListN.{length, drop, length-drop}
 use lib.Seq.{append_snoc, take_all}
-use borrow.Author.Tests.{lt-ltb, eq-eqb, ne_eqb}
+use borrow.Author.Tests.{eq-eqb, ne_eqb}
+use Rattle.std.specs.Prelude.{Option, Some, None, slice_get}
+use Rattle.std.proofs.lemmas.Option.{slice_get-get_or, slice_get_past}
 use Rattle.runs.specs.Parts.{nth, put, part, Kept}
-use Rattle.runs.proofs.Parts.{length-put, nth-put, nth-put_other, nth_past, length-part, nth-part, part_none, part_lent, part-more, part-part, part_ext}
+use Rattle.runs.proofs.Parts.{length-put, nth-put, nth-put_other, length-part, nth-part, part_none, part_lent, part-more, part-part, part_ext}
 use Rattle.runs.proofs.Frames.{kept_none, kept_then, kept_wide, kept-put, kept-part}
 use Rattle.rule.specs.Rewriting.{is_pair, Span, one, hit, cut, src, out, rewrite}
 use Rattle.rule.proofs.Rewriting.{src-cut}
-use Rattle.step.specs.Step.{step_by, step_of, StepAt}
+use Rattle.step.specs.Step.{starts_pair, step_by, step_of, StepAt}
 use Rattle.step.specs.declared.Step.{Step}
 use Rattle.step.proofs.Steps.{decided}
 use Rattle.word.specs.Layout.{symbol_in, symbols_at}
@@ -51,30 +52,30 @@ module _ (a b x : ℕ) (small : x < 2 ^ 32) where
 
 -- A STEP
 
-module _ (a b x : ℕ) (has : Bool) (previous : ℕ) where
+module _ (a b x : ℕ) (previous : Option ℕ) where
   step_cells : (l : List ℕ) → 0 < length l
-      → rewrite_cells a b x l ≡ leaves (step_of a b x has previous (map symbol_in l)) (nth l 0) ∷ rewrite_cells a b x (drop (step_of a b x has previous (map symbol_in l)).took l)
-  unfolding rewrite_cells cells_of leaves step_of step_by cut nth
+      → rewrite_cells a b x l ≡ leaves (step_of a b x previous (map symbol_in l)) (nth l 0) ∷ rewrite_cells a b x (drop (step_of a b x previous (map symbol_in l)).took l)
+  unfolding rewrite_cells cells_of leaves step_of step_by starts_pair cut nth
   step_cells [] h = absurd (omega arith)
   step_cells (c ∷ []) h = refl
   step_cells (c ∷ d ∷ r) h = go (is_pair a b (symbol_in c) (symbol_in d)) refl
     where
-      two : ltb 1 (suc (suc (length (map symbol_in r)))) ≡ true
-      two = lt-ltb 1 (suc (suc (length (map symbol_in r)))) (omega arith)
-
       go : (t : Bool) → is_pair a b (symbol_in c) (symbol_in d) ≡ t
           → rewrite_cells a b x (c ∷ d ∷ r)
-          ≡ leaves (step_of a b x has previous (map symbol_in (c ∷ d ∷ r))) c ∷ rewrite_cells a b x (drop (step_of a b x has previous (map symbol_in (c ∷ d ∷ r))).took (c ∷ d ∷ r))
-      go true e = rw (two, e)
-      go false e = rw (two, e)
+          ≡ leaves (step_of a b x previous (map symbol_in (c ∷ d ∷ r))) c ∷ rewrite_cells a b x (drop (step_of a b x previous (map symbol_in (c ∷ d ∷ r))).took (c ∷ d ∷ r))
+      go true e = rw e
+      go false e = rw e
 
--- a symbol looked at, or 0 past the end
-module _ (at n j : ℕ) (cs : List ℕ) where
-  pub peek_in : (r : ℕ) → r ≡ symbol_in (nth cs (at + j)) → j < n → r ≡ nth (symbols_at at n cs) j
-  peek_in r e h = e ∙ sym (nth_symbols at n cs j h)
+-- a symbol looked at, the first or one further on, if there is one
+module _ (at n j : ℕ) (cs : List ℕ) (room : at + n ≤ length cs) where
+  pub peek_in : (r : ℕ) → r ≡ symbol_in (nth cs (at + j)) → j < n → Some r ≡ slice_get (symbols_at at n cs) j
+  unfolding nth
+  peek_in r e h =
+      rw (slice_get-get_or (symbols_at at n cs) j 0 (omega (arith, symbols_length at n cs room)))
+      (ap Some (e ∙ sym (nth_symbols at n cs j h)))
 
-  pub peek_past : n ≤ j → at + n ≤ length cs → 0 ≡ nth (symbols_at at n cs) j
-  peek_past h l = sym (nth_past (symbols_at at n cs) j (omega (arith, symbols_length at n cs l)))
+  pub peek_past : n ≤ j → None ≡ slice_get (symbols_at at n cs) j
+  peek_past h = sym (slice_get_past (symbols_at at n cs) j (omega (arith, symbols_length at n cs room)))
 
 -- what a step leaves
 module _ (st : Step) (c : ℕ) where
@@ -87,29 +88,35 @@ module _ (st : Step) (c : ℕ) where
   leaves_symbol h = rw (ne_eqb st.took 1 h)
 
 -- a look at the front
-pub looked : (a b x : ℕ) (has : Bool) (previous at left s t u : ℕ) (cs : List ℕ) → at + left ≤ length cs → 0 < left
-    → s ≡ nth (symbols_at at left cs) 0 → t ≡ nth (symbols_at at left cs) 1 → u ≡ nth (symbols_at at left cs) 2
-    → (st : Step) → st ≡ step_by a b x has previous left s t u → Looked a b x has previous at left cs st
+pub looked : (a b x : ℕ) (previous : Option ℕ) (at left s : ℕ) (t u : Option ℕ) (cs : List ℕ) → at + left ≤ length cs → 0 < left
+    → s ≡ symbol_in (nth cs at) → t ≡ slice_get (symbols_at at left cs) 1 → u ≡ slice_get (symbols_at at left cs) 2
+    → (st : Step) → st ≡ step_by a b x previous s t u → Looked a b x previous at left cs st
 unfolding symbols_at step_of
-looked a b x has previous at left s t u cs l h es et eu st e =
+looked a b x previous at left s t u cs l h is_first et eu st e =
     record {
       is = is;
       step = front;
       within = omega (arith, front.within, long);
-      cells_is = rw (is, ← first) (step_cells a b x has previous (part at left cs) (omega (arith, length-part at left cs l)));
+      cells_is = rw (is, ← first) (step_cells a b x previous (part at left cs) (omega (arith, length-part at left cs l)));
     }
   where
     long : length (symbols_at at left cs) ≡ left
     long = symbols_length at left cs l
 
-    front : StepAt a b x has previous (symbols_at at left cs) st
-    front = decided a b x has previous (symbols_at at left cs) left s t u st h (sym long) es et eu e
+    here : at + 0 ≡ at
+    here = omega arith
 
-    is : st ≡ step_of a b x has previous (map symbol_in (part at left cs))
-    is = rw (long, ← es, ← et, ← eu) e
+    es : s ≡ nth (symbols_at at left cs) 0
+    es = is_first ∙ sym (rw here at (nth_symbols at left cs 0 h))
+
+    front : StepAt a b x previous (symbols_at at left cs) st
+    front = decided a b x previous (symbols_at at left cs) s t u st (omega (arith, long)) es et eu e
+
+    is : st ≡ step_of a b x previous (map symbol_in (part at left cs))
+    is = rw (← es, ← et, ← eu) e
 
     first : nth (part at left cs) 0 ≡ nth cs at
-    first = let z : at + 0 ≡ at = omega arith in rw z at (nth-part at left cs 0 h)
+    first = rw here at (nth-part at left cs 0 h)
 
 -- THE LOOP
 
@@ -126,11 +133,11 @@ module _ (a b x start n : ℕ) where
   }
 
   module _ (k at left : ℕ) (cs ds : List ℕ) (σ : Run a b x start n k at left cs ds) where
-    pub run_turn : 0 < left → (has : Bool) (previous : ℕ) (st : Step) → Looked a b x has previous at left ds st
+    pub run_turn : 0 < left → (previous : Option ℕ) (st : Step) → Looked a b x previous at left ds st
         → (v : ℕ) → v ≡ leaves st (nth ds at)
         → (es : List ℕ) → es ≡ put ds (start + k) v
         → Run a b x start n (k + 1) (at + st.took) (left - st.took) cs es
-    run_turn h has previous st s v ev es e =
+    run_turn h previous st s v ev es e =
         record {
           sofar = rw (before, after, append_snoc, ev, ← s.cells_is) σ.sofar;
           kept = kept_then (kept_wide start (start + (k + 1)) (omega arith) (omega arith) σ.kept) (kept_wide start (start + (k + 1)) (omega arith) (omega arith) here);

@@ -1,5 +1,5 @@
 -- Rewriting (a,b) to x in the cells of a word, in place.
-use Rattle.std.specs.Prelude.{◌≡◌, Bool, cond, List, [], ◌∷◌, ◌++◌, map, ℕ, ◌+◌, ◌^◌, ◌≤◌, ◌<◌, eqb, length, drop}
+use Rattle.std.specs.Prelude.{◌≡◌, cond, List, [], ◌∷◌, ◌++◌, map, ℕ, ◌+◌, ◌^◌, ◌≤◌, ◌<◌, eqb, length, drop, Option}
 use Rattle.runs.specs.Parts.{nth, part, Kept}
 use Rattle.rule.specs.Rewriting.{Span, one, hit, cut}
 use Rattle.step.specs.Step.{step_of, StepAt}
@@ -23,9 +23,9 @@ unfoldable pub leaves : Step → ℕ → ℕ
 leaves st c = cond (eqb st.took 1) c st.symbol
 
 -- a step at the front of the `left` symbols from the cell `at` on
-pub record Looked (a b x : ℕ) (has : Bool) (previous at left : ℕ) (cs : List ℕ) (st : Step) : Type 0 where
-  pub is : st ≡ step_of a b x has previous (symbols_at at left cs)
-  pub step : StepAt a b x has previous (symbols_at at left cs) st
+pub record Looked (a b x : ℕ) (previous : Option ℕ) (at left : ℕ) (cs : List ℕ) (st : Step) : Type 0 where
+  pub is : st ≡ step_of a b x previous (symbols_at at left cs)
+  pub step : StepAt a b x previous (symbols_at at left cs) st
   pub within : st.took ≤ left
   pub cells_is : rewrite_cells a b x (part at left cs) ≡ leaves st (nth cs at) ∷ rewrite_cells a b x (drop st.took (part at left cs))
 

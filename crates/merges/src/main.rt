@@ -33,61 +33,32 @@ fn hex_line(rt: &impl Print, name: &[u8], s: &[u8]) -> io::Result<()> {
 
 // The checksum of some bytes behind those that come to `start`.
 fn fold(start: u32, s: &[u8]) -> u32 {
-    let mut sum = start;
-    for i in 0..s.len() {
-        sum = (((sum as u64) + numbers::wide(s[i])) * 16777619 % 4294967296) as u32;
-    }
-    sum
+    s.iter().fold(start, |sum, b| {
+        sum.wrapping_add(u32::from(*b)).wrapping_mul(16777619)
+    })
 }
 
-// An outcome, written in full or gone into a checksum.
-fn tell(
-    rt: &impl Print,
-    start: u32,
-    full: bool,
-    r: u64,
-    symbols: &[u8],
-    changes: &[u8],
-    answer: &[u8],
-) -> io::Result<u32> {
-    if full {
-        print!(rt; "{r}")?;
-        hex_line(rt, b"\nsymbols ", symbols)?;
-        hex_line(rt, b"changes ", changes)?;
-        hex_line(rt, b"answer ", answer)?;
-        return Ok(start);
-    }
-    let number = [(r % 256) as u8];
-    let sum = fold(fold(start, &number), symbols);
-    Ok(fold(fold(sum, changes), answer))
-}
-
-// One outcome, where of each run only the front is lent.
-fn outcome(
-    rt: &impl Print,
-    start: u32,
-    full: bool,
-    symbols: &mut [u8],
+// One case: a word of so many symbols by its number, the pair and what it becomes, and how many bytes
+// are lent of the word, of the list and of the answer run.
+#[derive(Clone, Copy)]
+struct Case {
+    symbols: usize,
+    number: u64,
+    left: u32,
+    right: u32,
+    joined: u32,
     word: usize,
-    a: u32,
-    b: u32,
-    x: u32,
-    changes: &mut [u8],
     list: usize,
-    answer: &mut [u8],
     told: usize,
-) -> io::Result<u32>
-    requires { (word ≤ length symbols.old) × (list ≤ length changes.old) × (told ≤ length answer.old) }
-{
-    let r = door::rindovesh_merge_symbols(
-        &mut symbols[0..word],
-        a,
-        b,
-        x,
-        &mut changes[0..list],
-        &mut answer[0..told],
-    );
-    tell(rt, start, full, r, symbols, changes, answer)
+}
+
+// What a case comes to: the number returned, and the three runs with what stands behind the lent parts.
+#[derive(Clone, Copy)]
+struct Outcome {
+    returned: u64,
+    symbols: [u8; 24],
+    changes: [u8; 144],
+    answer: [u8; 72],
 }
 
 // The word of n symbols with this number, its first symbol the lowest digit in base three.
@@ -97,55 +68,74 @@ fn spell(run: &mut [u8], n: usize, number: u64)
     let mut rest = number;
     for i in 0..n {
         numbers::store4(run, i * 4, SYMBOLS[(rest % 3) as usize]);
-        rest = rest / 3;
+        rest /= 3;
     }
 }
 
-// One case: a word by its number, and how many bytes are lent of the three runs.
-fn case(
-    rt: &impl Print,
-    start: u32,
-    full: bool,
-    n: usize,
-    number: u64,
-    a: u32,
-    b: u32,
-    x: u32,
-    word: usize,
-    list: usize,
-    told: usize,
-) -> io::Result<u32>
-    requires { (n ≤ 6) × (word ≤ 24) × (list ≤ 144) × (told ≤ 72) }
+// Merges a case's pair in its word.
+fn merge(c: Case) -> Outcome
+    requires { (c.symbols ≤ 6) × (c.word ≤ 24) × (c.list ≤ 144) × (c.told ≤ 72) }
 {
     let mut symbols = [0xA5u8; 24];
     let mut changes = [0xA5u8; 144];
     let mut answer = [0x5Au8; 72];
-    spell(&mut symbols, n, number);
-    outcome(
-        rt,
-        start,
-        full,
-        &mut symbols,
-        word,
-        a,
-        b,
-        x,
-        &mut changes,
-        list,
-        &mut answer,
-        told,
-    )
+    spell(&mut symbols, c.symbols, c.number);
+    let returned = door::rindovesh_merge_symbols(
+        &mut symbols[..c.word],
+        c.left,
+        c.right,
+        c.joined,
+        &mut changes[..c.list],
+        &mut answer[..c.told],
+    );
+    Outcome {
+        returned,
+        symbols,
+        changes,
+        answer,
+    }
+}
+
+// Writes an outcome in full.
+fn write(rt: &impl Print, o: &Outcome) -> io::Result<()> {
+    print!(rt; "{}", o.returned)?;
+    hex_line(rt, b"\nsymbols ", &o.symbols)?;
+    hex_line(rt, b"changes ", &o.changes)?;
+    hex_line(rt, b"answer ", &o.answer)
+}
+
+// The checksum of an outcome behind those that come to `start`.
+fn checksum(start: u32, o: &Outcome) -> u32 {
+    let sum = fold(start, &[(o.returned % 256) as u8]);
+    fold(fold(fold(sum, &o.symbols), &o.changes), &o.answer)
 }
 
 // The word a a a with a list of two places, and a b a b with one of four and one of three.
 fn examples(rt: &impl Print) -> io::Result<()> {
+    let three = Case {
+        symbols: 3,
+        number: 0,
+        left: 97,
+        right: 97,
+        joined: 256,
+        word: 12,
+        list: 32,
+        told: 64,
+    };
+    let four = Case {
+        symbols: 4,
+        number: 30,
+        right: 98,
+        word: 16,
+        list: 64,
+        ..three
+    };
     rt.write_all(b"example 11: ")?;
-    case(rt, 0, true, 3, 0, 97, 97, 256, 12, 32, 64)?;
+    write(rt, &merge(three))?;
     rt.write_all(b"example 12: ")?;
-    case(rt, 0, true, 4, 30, 97, 98, 256, 16, 64, 64)?;
+    write(rt, &merge(four))?;
     rt.write_all(b"example 12, one place short: ")?;
-    case(rt, 0, true, 4, 30, 97, 98, 256, 16, 48, 64)?;
-    Ok(())
+    write(rt, &merge(Case { list: 48, ..four }))
 }
 
 fn number(rt: &impl Print, v: u64) -> io::Result<()> {
@@ -162,33 +152,61 @@ fn line(rt: &impl Print, cases: u64, sum: u32) -> io::Result<()> {
 // run that is one byte short, exactly long enough or longer, and a list of 0 to 144 bytes.
 fn shapes(rt: &impl Print) -> io::Result<()> {
     let mut sum = START;
-    for t in 0..10875 {
-        let told = match t / 145 % 3 {
-            0 => 63,
-            1 => 64,
-            _ => 72,
-        };
-        sum = case(rt, sum, false, 6, 273, 97, 98, 256, t / 435, t % 145, told)?;
+    for word in 0..25 {
+        for told in [63, 64, 72] {
+            for list in 0..145 {
+                let c = Case {
+                    symbols: 6,
+                    number: 273,
+                    left: 97,
+                    right: 98,
+                    joined: 256,
+                    word,
+                    list,
+                    told,
+                };
+                sum = checksum(sum, &merge(c));
+            }
+        }
     }
-    line(rt, 10875, sum)
+    line(rt, 25 * 3 * 145, sum)
 }
 
-// 0: all equal; 1: a pair of equal symbols; 2, 3: x is the left or the right one; 4: all differ.
-fn kind(a: usize, b: usize, x: usize) -> u64 {
-    if a == b {
-        if x == a { 0 } else { 1 }
-    } else if x == a {
-        2
-    } else if x == b {
-        3
-    } else {
-        4
+// How a pair and what it becomes stand to one another.
+#[derive(Clone, Copy, PartialEq, Eq)]
+enum Kind {
+    AllEqual,
+    EqualPair,
+    LeftStays,
+    RightStays,
+    AllDiffer,
+}
+
+// The kinds in the order of their numbers.
+const KINDS: [Kind; 5] = [
+    Kind::AllEqual,
+    Kind::EqualPair,
+    Kind::LeftStays,
+    Kind::RightStays,
+    Kind::AllDiffer,
+];
+
+impl Kind {
+    // The kind of a pair and what it becomes, each by its place among the symbols.
+    fn of(left: usize, right: usize, joined: usize) -> Kind {
+        match (left == right, joined == left, joined == right) {
+            (true, true, _) => Kind::AllEqual,
+            (true, false, _) => Kind::EqualPair,
+            (false, true, _) => Kind::LeftStays,
+            (false, false, true) => Kind::RightStays,
+            (false, false, false) => Kind::AllDiffer,
+        }
     }
 }
 
 // All words of n symbols, of which there are `many`, each with the pairs and new symbols of one kind
 // and with a list of 0 to 9 places.
-fn words(rt: &impl Print, n: usize, many: u16, k: u64) -> io::Result<()>
+fn words(rt: &impl Print, n: usize, many: u16, k: Kind) -> io::Result<()>
     requires { n ≤ 6 }
 {
     let mut sum = START;
@@ -197,20 +215,18 @@ fn words(rt: &impl Print, n: usize, many: u16, k: u64) -> io::Result<()>
         let a = t / 160 % 4;
         let b = t / 40 % 4;
         let x = t / 10 % 4;
-        if kind(a, b, x) == k {
-            sum = case(
-                rt,
-                sum,
-                false,
-                n,
-                (t / 640) as u64,
-                SYMBOLS[a],
-                SYMBOLS[b],
-                SYMBOLS[x],
-                n * 4,
-                t % 10 * 16,
-                72,
-            )?;
+        if Kind::of(a, b, x) == k {
+            let c = Case {
+                symbols: n,
+                number: (t / 640) as u64,
+                left: SYMBOLS[a],
+                right: SYMBOLS[b],
+                joined: SYMBOLS[x],
+                word: n * 4,
+                list: t % 10 * 16,
+                told: 72,
+            };
+            sum = checksum(sum, &merge(c));
             cases += 1;
         }
     }
@@ -222,12 +238,12 @@ fn main(rt: HostRuntime) -> io::Result<()> {
     rt.write_all(b"runs of any length: ")?;
     shapes(&rt)?;
     rt.write_all(b"by length and kind:\n")?;
-    for t in 0..35 {
-        let n = t / 5;
-        let k = (t % 5) as u64;
-        number(&rt, n as u64)?;
-        number(&rt, k)?;
-        words(&rt, n, WORDS[n], k)?;
+    for n in 0..7 {
+        for k in 0..5 {
+            number(&rt, n as u64)?;
+            number(&rt, k as u64)?;
+            words(&rt, n, WORDS[n], KINDS[k])?;
+        }
     }
     Ok(())
 }

@@ -6,7 +6,7 @@ use Prim.Native.Nat.{ℕ, ◌+◌, ◌<◌, ◌≤◌}
 use native.Mathlib.Omega.{arith}
 use Rattle.runs.specs.Parts.{nth, Kept}
 use Rattle.runs.proofs.Frames.{kept_none, kept_then, kept_wide}
-use Rattle.records.specs.Records.{field, Live, CanPut, FieldPut, SameArena}
+use Rattle.records.specs.Records.{field, Live, FieldPut, SameArena}
 use Rattle.records.proofs.Frames.{arena_kept}
 use Rattle.pairs.specs.View.{arena_at, lists_at, behind, top, made}
 use Rattle.pairs.specs.declared.Pairs.{Pairs}
@@ -19,9 +19,6 @@ top_cell p cs = refl
 made_cell : (p : Pairs) (cs : List ℕ) → made p cs ≡ nth cs (lists_at p + 1)
 unfolding made
 made_cell p cs = refl
-
-pub can_field : (p : Pairs) (r f : ℕ) (cs : List ℕ) → Live (arena_at p) p.most r cs → 0 < f → f < 8 → CanPut (arena_at p) p.most r f cs
-can_field p r f cs l a b = record { at = l; some = a; few = b }
 
 pub still_none : (p : Pairs) (r : ℕ) (cs : List ℕ) → Live (arena_at p) p.most r cs → Still p r cs cs
 still_none p r cs l =

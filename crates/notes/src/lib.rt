@@ -1,5 +1,5 @@
-// A word noted in a pair's list. A list that stands in the pair's record moves to a run of cells with its fifth word, and one that has
-// filled its run to one of twice the capacity.
+// A word noted in a pair's list. A list that stands in the pair's record moves to a run of cells with its fifth
+// word, and one that has filled its run to one of twice the capacity.
 #![tactic(auto)]
 
 ghost use Rattle.std.specs.Prelude.{◌≡◌};
@@ -9,87 +9,88 @@ ghost use Rattle.pairs.specs.View.{state};
 ghost use Rattle.pairs.specs.Pairs.{Has};
 ghost use Rattle.notes.specs.Notes.{with_note, with_more, CanNote, Noted, AddShort, AddLong, Ready, CanMove, MovedList};
 
-use pairs::Pairs;
+use fields::{CAPACITY, FIRST, MANY, PLACE};
+use pairs::Pair;
 
 // Whether the word noted last is w.
-fn seen(room: &[u8], p: Pairs, key: u64, r: usize, w: u64) -> bool
-    requires { Has p key r (cells room.now) }
-    ensures { result ≡ last_is w (state p (cells room.now) key).words }
+fn seen(room: &[u8], pair: Pair, w: u64) -> bool
+    requires { Has pair.pairs pair.key pair.number (cells room.now) }
+    ensures { result ≡ last_is w (state pair.pairs (cells room.now) pair.key).words }
 {
-    let n = records::get_field(room, p.base + 2 * p.cap, p.most, r, 3) as usize;
+    let n = fields::get(room, pair.pairs, pair.number, MANY) as usize;
     if n == 0 {
         return false;
     }
-    let x = lists::word_at(room, p, key, r, n - 1);
-    x == w
+    lists::word_at(room, pair, n - 1) == w
 }
 
 // Puts a word behind the n < 4 that stand in the record: first it stands there, then it counts.
-fn add_short(room: &mut [u8], p: Pairs, key: u64, r: usize, n: usize, w: u64)
-    requires { AddShort p key r n (cells room.old) }
-    ensures { Noted p key r (with_more w (state p (cells room.old) key)) (cells room.old) (cells room.new) }
+fn add_short(room: &mut [u8], pair: Pair, n: usize, w: u64)
+    requires { AddShort pair.pairs pair.key pair.number n (cells room.old) }
+    ensures { Noted pair.pairs pair.key pair.number (with_more w (state pair.pairs (cells room.old) pair.key))
+        (cells room.old) (cells room.new) }
 {
-    let at = p.base + 2 * p.cap;
-    records::put_field(room, at, p.most, r, 4 + n, w);
+    fields::put(room, pair.pairs, pair.number, FIRST + n, w);
     let more = (n + 1) as u64;
-    records::put_field(room, at, p.most, r, 3, more);
+    fields::put(room, pair.pairs, pair.number, MANY, more);
 }
 
 // Moves the n words from the cell `from` on into a new run of `size` cells, which the record has from now on.
-fn move_list(room: &mut [u8], p: Pairs, key: u64, r: usize, from: usize, n: usize, size: usize)
-    requires { CanMove p key r from n size (cells room.old) }
-    ensures { MovedList p r from n size (cells room.old) (cells room.new) }
+// Stays: place and length apart: a part of the cells that are written.
+fn move_list(room: &mut [u8], pair: Pair, from: usize, n: usize, size: usize)
+    requires { CanMove pair.pairs pair.key pair.number from n size (cells room.old) }
+    ensures { MovedList pair.pairs pair.number from n size (cells room.old) (cells room.new) }
 {
-    let at = p.base + 2 * p.cap;
-    let lists = at + 3 + p.most * 8;
+    let lists = pair.pairs.lists();
     let top = cells::cell(room, lists) as usize;
     cells::copy_cells(room, lists + 2 + top, from, n);
     cells::put_cell(room, lists, (top + size) as u64);
-    records::put_field(room, at, p.most, r, 4, top as u64);
-    records::put_field(room, at, p.most, r, 5, size as u64);
+    fields::put(room, pair.pairs, pair.number, PLACE, top as u64);
+    fields::put(room, pair.pairs, pair.number, CAPACITY, size as u64);
 }
 
 // Sees to it that the n words stand in a run that has space for one more.
-fn widen(room: &mut [u8], p: Pairs, key: u64, r: usize, n: usize)
-    requires { AddLong p key r n (cells room.old) }
-    ensures { Ready p key r n (cells room.old) (cells room.new) }
+fn widen(room: &mut [u8], pair: Pair, n: usize)
+    requires { AddLong pair.pairs pair.key pair.number n (cells room.old) }
+    ensures { Ready pair.pairs pair.key pair.number n (cells room.old) (cells room.new) }
 {
-    let at = p.base + 2 * p.cap;
     if n == 4 {
-        move_list(room, p, key, r, at + 3 + r * 8 + 4, 4, 8);
+        let near = pair.pairs.records() + 3 + pair.number * 8 + FIRST;
+        move_list(room, pair, near, 4, 8);
         return;
     }
-    let size = records::get_field(room, at, p.most, r, 5) as usize;
+    let size = fields::get(room, pair.pairs, pair.number, CAPACITY) as usize;
     if n == size {
-        let place = records::get_field(room, at, p.most, r, 4) as usize;
-        move_list(room, p, key, r, at + 3 + p.most * 8 + 2 + place, n, 2 * n);
+        let place = fields::get(room, pair.pairs, pair.number, PLACE) as usize;
+        move_list(room, pair, pair.pairs.words() + place, n, 2 * n);
     }
 }
 
 // Puts a word behind the n >= 4 that stand in a run: first it stands there, then it counts.
-fn add_long(room: &mut [u8], p: Pairs, key: u64, r: usize, n: usize, w: u64)
-    requires { AddLong p key r n (cells room.old) }
-    ensures { Noted p key r (with_more w (state p (cells room.old) key)) (cells room.old) (cells room.new) }
+fn add_long(room: &mut [u8], pair: Pair, n: usize, w: u64)
+    requires { AddLong pair.pairs pair.key pair.number n (cells room.old) }
+    ensures { Noted pair.pairs pair.key pair.number (with_more w (state pair.pairs (cells room.old) pair.key))
+        (cells room.old) (cells room.new) }
 {
-    widen(room, p, key, r, n);
-    let at = p.base + 2 * p.cap;
-    let place = records::get_field(room, at, p.most, r, 4) as usize;
-    cells::put_cell(room, at + 3 + p.most * 8 + 2 + place + n, w);
-    records::put_field(room, at, p.most, r, 3, (n + 1) as u64);
+    widen(room, pair, n);
+    let place = fields::get(room, pair.pairs, pair.number, PLACE) as usize;
+    cells::put_cell(room, pair.pairs.words() + place + n, w);
+    fields::put(room, pair.pairs, pair.number, MANY, (n + 1) as u64);
 }
 
 // Notes the word w in the list of a pair, unless it was noted last.
-pub fn note(room: &mut [u8], p: Pairs, key: u64, r: usize, w: u64)
-    requires { CanNote p key r (cells room.old) }
-    ensures { Noted p key r (with_note w (state p (cells room.old) key)) (cells room.old) (cells room.new) }
+pub fn note(room: &mut [u8], pair: Pair, w: u64)
+    requires { CanNote pair.pairs pair.key pair.number (cells room.old) }
+    ensures { Noted pair.pairs pair.key pair.number (with_note w (state pair.pairs (cells room.old) pair.key))
+        (cells room.old) (cells room.new) }
 {
-    if seen(room, p, key, r, w) {
+    if seen(room, pair, w) {
         return;
     }
-    let n = records::get_field(room, p.base + 2 * p.cap, p.most, r, 3) as usize;
+    let n = fields::get(room, pair.pairs, pair.number, MANY) as usize;
     if n < 4 {
-        add_short(room, p, key, r, n, w);
+        add_short(room, pair, n, w);
     } else {
-        add_long(room, p, key, r, n, w);
+        add_long(room, pair, n, w);
     }
 }

@@ -7,7 +7,7 @@ use native.Mathlib.Omega.{arith}
 use lib.Dec.{eqb, ltb}
 use borrow.Author.Tests.{ltb-false, eqb-true, eq-eqb, le-ltb}
 use Rattle.order.specs.Order.{compared, same}
-use Rattle.order.specs.declared.Order.TheVariants.{Below, Same, Above}
+use Rattle.std.specs.declared.cmp.Ordering.TheVariants.{Less, Equal, Greater}
 
 pub same_refl : (xs : List ℕ) → same xs xs ≡ true
 unfolding same
@@ -24,20 +24,20 @@ same_true (x ∷ xs) (y ∷ ys) e = let b = (and-eq-true_iff (eqb x y) (same xs 
 pub same_false : (xs ys : List ℕ) → same xs ys ≡ false → xs ≡ ys → ⊥
 same_false xs ys e p = false≢true (sym (rw p at e) ∙ same_refl ys)
 
-pub compared_refl : (xs : List ℕ) → compared xs xs ≡ Same
+pub compared_refl : (xs : List ℕ) → compared xs xs ≡ Equal
 unfolding compared
 compared_refl [] = refl
 compared_refl (x ∷ xs) = rw (le-ltb x x (omega arith)) (compared_refl xs)
 
-pub compared-same : (xs ys : List ℕ) → compared xs ys ≡ Same → xs ≡ ys
+pub compared-same : (xs ys : List ℕ) → compared xs ys ≡ Equal → xs ≡ ys
 unfolding compared
 compared-same [] [] e = refl
 compared-same [] (y ∷ ys) e = cc
 compared-same (x ∷ xs) [] e = cc
 compared-same (x ∷ xs) (y ∷ ys) e = go (ltb x y) (ltb y x) refl refl e (compared-same xs ys)
   where
-    go : (t u : Bool) → ltb x y ≡ t → ltb y x ≡ u → cond t Below (cond u Above (compared xs ys)) ≡ Same
-        → (compared xs ys ≡ Same → xs ≡ ys) → x ∷ xs ≡ y ∷ ys
+    go : (t u : Bool) → ltb x y ≡ t → ltb y x ≡ u → cond t Less (cond u Greater (compared xs ys)) ≡ Equal
+        → (compared xs ys ≡ Equal → xs ≡ ys) → x ∷ xs ≡ y ∷ ys
     go true u p q r f = cc
     go false true p q r f = cc
     go false false p q r f = let h : x ≡ y = omega (arith, ltb-false x y p, ltb-false y x q) in rw (h, f r)

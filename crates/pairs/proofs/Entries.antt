@@ -2,7 +2,7 @@
 use mathlib.Core.Path.{◌≡◌, sym, ◌∙◌}
 use mathlib.Core.List.{List, []}
 use mathlib.Core.Logic.{inl, inr}
-use Prim.Native.Nat.{ℕ, ◌+◌, ◌-◌, ◌<◌}
+use Prim.Native.Nat.{ℕ, ◌+◌, ◌<◌}
 use native.Mathlib.Omega.{arith}
 use borrow.Author.Tests.{eq-eqb, ne_eqb}
 use Rattle.runs.specs.Parts.{Kept}
@@ -11,7 +11,7 @@ use Rattle.runs.proofs.Frames.{kept_then, kept_wide}
 use Rattle.index.specs.Index.{CanInsert, Inserted, SameIndex}
 use Rattle.index.proofs.Clients.{index-kept}
 use Rattle.records.specs.Records.{field, SameArena}
-use Rattle.arena.specs.Claims.{CanClaim, Alloc}
+use Rattle.arena.specs.Claims.{Alloc}
 use Rattle.records.proofs.Frames.{arena_kept}
 use Rattle.states.specs.State.{blank}
 use Rattle.pairs.specs.View.{arena_at, lists_at, behind, record_of, key_in, many, words_of, record_state, state, top, made, credit, spent}
@@ -34,9 +34,6 @@ credit-free p cs r e = rw e
 
 -- A RECORD TAKEN AND ENTERED
 module _ (p : Pairs) (k r : ℕ) (cs ds : List ℕ) (c : CanMake p k cs) where
-  pub can_claim : CanClaim (arena_at p) p.most k cs
-  can_claim = record { ar = c.ok.ar; pos = c.pos; space = omega (arith, c.few, c.ok.bound) }
-
   module _ (a : Alloc (arena_at p) p.most k r cs ds) where
     make_index : SameIndex p.base p.cap cs ds
     make_index = index-kept p.base p.cap _ _ cs ds c.ok.ix a.only.kept (inl (omega arith))
@@ -119,33 +116,15 @@ module _ (p : Pairs) (k r : ℕ) (cs ds : List ℕ) (c : CanMake p k cs) where
           }
 
 -- AN ENTRY: it is counted, and a key that has a record keeps it
-module _ (p : Pairs) (k v : ℕ) (cs ds : List ℕ) (c : CanEnter p k cs) (a : Asked p cs ds) (e : v ≡ record_of p ds k) where
-  pub entered_old : (v ≡ 0 → ⊥) → Entered p k (v - 1) cs ds
-  entered_old n =
+module _ (p : Pairs) (k : ℕ) (cs ds : List ℕ) (c : CanEnter p k cs) (a : Asked p cs ds) where
+  pub entered_old : (r : ℕ) → record_of p ds k ≡ r + 1 → Entered p k r cs ds
+  entered_old r e =
       record {
-        has = record { ok = a.ok; pos = c.pos; at = at; low = (a.ok.tied k (v - 1) c.pos at).low };
+        has = record { ok = a.ok; pos = c.pos; at = e; low = (a.ok.tied k r c.pos e).low };
         states = a.states;
         records = λ q h w. a.records q h;
         old = λ w h. omega (arith, e, h, a.records k c.pos);
         kept = a.kept;
         more = a.more;
         less = omega (arith, a.less);
-      }
-    where
-      at : record_of p ds k ≡ v - 1 + 1
-      at = omega arith
-
-  pub can_make : v ≡ 0 → CanMake p k ds
-  can_make z = record { ok = a.ok; pos = c.pos; none = sym e ∙ z; slots = a.slots; few = a.few }
-
-  pub entered_new : (r : ℕ) (es : List ℕ) → v ≡ 0 → Made p k r ds es → Entered p k r cs es
-  entered_new r es z m =
-      record {
-        has = m.has;
-        states = λ q h. m.states q h ∙ a.states q h;
-        records = λ q h n. m.records q h n ∙ a.records q h;
-        old = λ w h. absurd (omega (arith, e, z, h, a.records k c.pos));
-        kept = kept_then a.kept m.kept;
-        more = m.same ∙ a.more;
-        less = omega (arith, m.less, a.less);
       }

@@ -2,11 +2,11 @@
 use mathlib.Core.Path.{◌≡◌, refl, sym, ◌∙◌}
 use mathlib.Core.List.{List}
 use mathlib.Core.Logic.{inl, inr}
-use Prim.Native.Nat.{ℕ, ◌+◌, ◌-◌, ◌<◌, ◌≤◌}
+use Prim.Native.Nat.{ℕ, ◌+◌, ◌<◌, ◌≤◌}
 use native.Mathlib.Omega.{arith}
 use Rattle.runs.specs.Parts.{Kept}
 use Rattle.runs.proofs.Frames.{kept_none, kept_then, kept_wide}
-use Rattle.index.specs.Index.{CanErase, Erased, SameIndex}
+use Rattle.index.specs.Index.{Erased, SameIndex}
 use Rattle.index.proofs.Clients.{index-kept, idle_lt}
 use Rattle.records.specs.Records.{SameArena}
 use Rattle.arena.specs.Claims.{CanRelease, Released}
@@ -17,29 +17,26 @@ use Rattle.pairs.specs.declared.Pairs.{Pairs}
 use Rattle.pairs.proofs.Moves.{Moved, state_none, moved_state, moved_spent, moved_ok}
 use Rattle.pairs.proofs.Entries.{credit-free}
 
-module _ (p : Pairs) (k v : ℕ) (cs ds : List ℕ) (ok : Pairing p cs) (pos : 0 < k) (e : v ≡ record_of p cs k) (n : v ≡ 0 → ⊥) where
-  pub can_erase : CanErase p.base p.cap k cs
-  can_erase = record { ix = ok.ix; some = omega arith }
-
-  gone_tied : Tied p k (v - 1) cs
-  gone_tied = ok.tied k (v - 1) pos (omega arith)
+module _ (p : Pairs) (k r : ℕ) (cs ds : List ℕ) (ok : Pairing p cs) (pos : 0 < k) (e : record_of p cs k ≡ r + 1) where
+  gone_tied : Tied p k r cs
+  gone_tied = ok.tied k r pos e
 
   module _ (x : Erased p.base p.cap k cs ds) where
     gone_arena : SameArena (arena_at p) p.most cs ds
     gone_arena = arena_kept (arena_at p) p.most _ _ cs ds ok.ar x.set.kept (inr (omega arith))
 
-    pub can_release : CanRelease (arena_at p) p.most (v - 1) ds
+    pub can_release : CanRelease (arena_at p) p.most r ds
     can_release =
         record {
           at = record {
             ar = gone_arena.ok;
             low = gone_tied.low;
-            live = rw (gone_arena.fields (v - 1) 0 gone_tied.low (omega arith) ∙ gone_tied.key) pos;
+            live = rw (gone_arena.fields r 0 gone_tied.low (omega arith) ∙ gone_tied.key) pos;
           };
           more = omega (arith, gone_arena.taken-same, gone_arena.free-same, ok.even, idle_lt p.base p.cap cs ok.ix k (omega arith));
         }
 
-    module _ (es : List ℕ) (d : Released (arena_at p) p.most (v - 1) ds es) where
+    module _ (es : List ℕ) (d : Released (arena_at p) p.most r ds es) where
       gone_index : SameIndex p.base p.cap ds es
       gone_index = index-kept p.base p.cap _ _ ds es x.set.ok d.only.kept (inl (omega arith))
 
@@ -60,29 +57,29 @@ module _ (p : Pairs) (k v : ℕ) (cs ds : List ℕ) (ok : Pairing p cs) (pos : 0
       gone_none : record_of p es k ≡ 0
       gone_none = gone_index.values k ∙ x.set.here
 
-      gone_moved : Moved p k (v - 1) cs es
+      gone_moved : Moved p k r cs es
       gone_moved =
           record {
             records = λ q h w. gone_index.values q ∙ x.set.others q w;
             fields = λ s g h b w. d.only.others s g b w ∙ gone_arena.fields s g h b;
             lists = λ s j w l h. gone_kept.same _ (inr (omega arith));
-            owner = λ q h w. sym (ok.tied q (v - 1) h w).key ∙ gone_tied.key;
+            owner = λ q h w. sym (ok.tied q r h w).key ∙ gone_tied.key;
             long = gone_kept.long;
           }
 
       gone_spent : spent p es ≤ spent p cs
-      gone_spent = omega (arith, moved_spent p k (v - 1) cs es ok gone_moved gone_tied.low, gone_top, credit-free p es (v - 1) d.gone)
+      gone_spent = omega (arith, moved_spent p k r cs es ok gone_moved gone_tied.low, gone_top, credit-free p es r d.gone)
 
       pub removed : Removed p k cs es
       removed =
           record {
-            ok = moved_ok p k (v - 1) cs es ok gone_moved gone_index.ok d.ok (λ _ s w. absurd (omega (arith, w, gone_none)))
+            ok = moved_ok p k r cs es ok gone_moved gone_index.ok d.ok (λ _ s w. absurd (omega (arith, w, gone_none)))
                 (omega (arith, ok.even, x.freed, gone_index.busy, d.same, d.freed, gone_arena.taken-same, gone_arena.free-same))
                 (omega (arith, ok.few, d.same, gone_arena.taken-same, gone_made)) (omega (arith, ok.slots, x.spent, gone_index.spent, gone_made))
                 (omega (arith, ok.cells, gone_spent, gone_made)) (omega (arith, ok.bound, gone_made)) (omega (arith, gone_top))
                 (λ l. absurd (omega (arith, l.live, d.gone))) (λ s w l o. absurd (omega (arith, l.live, d.gone)));
             gone = gone_none;
-            change = record { here = state_none p es k gone_none; others = moved_state p k (v - 1) cs es ok gone_moved };
+            change = record { here = state_none p es k gone_none; others = moved_state p k r cs es ok gone_moved };
             records = gone_moved.records;
             kept = kept_wide p.base (behind p) (omega arith) (omega arith) gone_kept;
             same = gone_made;
@@ -90,12 +87,12 @@ module _ (p : Pairs) (k v : ℕ) (cs ds : List ℕ) (ok : Pairing p cs) (pos : 0
           }
 
 -- a key that has none
-pub removed_none : (p : Pairs) (k v : ℕ) (cs : List ℕ) → Pairing p cs → v ≡ record_of p cs k → v ≡ 0 → Removed p k cs cs
-removed_none p k v cs ok e z =
+pub removed_none : (p : Pairs) (k : ℕ) (cs : List ℕ) → Pairing p cs → record_of p cs k ≡ 0 → Removed p k cs cs
+removed_none p k cs ok z =
     record {
       ok = ok;
-      gone = sym e ∙ z;
-      change = record { here = state_none p cs k (sym e ∙ z); others = λ q h n. refl };
+      gone = z;
+      change = record { here = state_none p cs k z; others = λ q h n. refl };
       records = λ q h n. refl;
       kept = kept_none _ _ cs;
       same = refl;

@@ -8,14 +8,16 @@
 ghost use Rattle.std.specs.Prelude.{◌≡◌};
 ghost use Rattle.reader.specs.Reader.{Answered};
 
-use vocab::Lookup;
+use error::PieceError;
+use vocab::Place;
 
 // A piece: a part of the lent bytes, empty on a refusal. The answer beside it tells a refusal from
 // an empty piece.
+// Stays: part and answer side by side, since `Answered` promises both of every number.
 #[derive(Clone, Copy)]
 pub struct Piece<'a> {
     pub part: &'a [u8],
-    pub what: Lookup,
+    pub what: Result<Place, PieceError>,
 }
 
 // The lent table, kept: the piece bytes and their ends.

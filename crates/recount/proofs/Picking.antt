@@ -1,85 +1,81 @@
 -- The laws of the better of two, and of a pair that is known. Assumes nothing.
-use mathlib.Core.Path.{◌≡◌, refl}
-use mathlib.Core.Bool.{Bool, true, false, cond, ◌&&◌, false≢true}
+use mathlib.Core.Path.{◌≡◌, refl, sym, ◌∙◌}
+use mathlib.Core.Bool.{Bool, true, false, cond, ◌&&◌, ◌||◌, false≢true}
 use mathlib.Core.List.{[], ◌∷◌}
-use Prim.Native.Nat.{ℕ, ◌≤◌, ◌<◌}
+use Prim.Native.Nat.{ℕ, ◌<◌, ◌≤◌}
 use native.Mathlib.Omega.{arith}
 use lib.Dec.{eqb, ltb}
-use borrow.Author.Tests.{ltb-true, eqb-true, lt-ltb, le-ltb, eq-eqb, ne_eqb}
-use Rattle.rule.specs.Training.{best, better}
-use Rattle.recount.specs.Recount.{ruled, pick, known}
+use borrow.Author.Tests.{ltb-true, eqb-true, lt-ltb, le-ltb}
+use Rattle.std.specs.Prelude.{Option, Some, None}
+use Rattle.rule.specs.Training.{nothing, best, better}
+use Rattle.rule.specs.Training as rule
+use Rattle.recount.specs.Recount.{ruled, told, pick, known}
 use Rattle.recount.specs.declared.Choice.{Choice}
 
--- THE BETTER OF TWO, test by test
-module _ (c d : Choice) where
-  pub pick-more : c.times < d.times → d ≡ pick c d
-  unfolding pick ruled
-  pick-more h = rw (lt-ltb c.times d.times h)
+-- THE BETTER OF TWO
+pub better_none : (d : Choice) → better (ruled d) nothing ≡ ltb 0 d.times
+unfolding ruled
+better_none d = rw (le-ltb d.left 0 (omega arith), le-ltb d.right 0 (omega arith)) (go (ltb 0 d.times) (eqb d.times 0) (eqb d.left 0))
+  where
+    go : (x y z : Bool) → (x || (y && (false || (z && false)))) ≡ x
+    go true y z = refl
+    go false true true = refl
+    go false true false = refl
+    go false false z = refl
 
-  pub pick_fewer : d.times < c.times → c ≡ pick c d
-  unfolding pick ruled
-  pick_fewer h = rw (le-ltb c.times d.times (omega arith), ne_eqb d.times c.times (omega arith))
+-- test by test
+module _ (d : Choice) where
+  pub pick_better : (c : Choice) (b : Bool) → b ≡ better (ruled d) (ruled c) → b ≡ true → Some d ≡ pick (Some c) d
+  unfolding pick told
+  pick_better c b e h = rw (← e, h)
 
-  module _ (m : d.times ≤ c.times) (n : c.times ≤ d.times) where
-    pub pick-lower : d.left < c.left → d ≡ pick c d
-    unfolding pick ruled
-    pick-lower h = rw (le-ltb c.times d.times m, eq-eqb d.times c.times (omega arith), lt-ltb d.left c.left h)
+  pub pick_kept : (c : Choice) (b : Bool) → b ≡ better (ruled d) (ruled c) → b ≡ false → Some c ≡ pick (Some c) d
+  unfolding pick told
+  pick_kept c b e h = rw (← e, h)
 
-    pub pick_higher : c.left < d.left → c ≡ pick c d
-    unfolding pick ruled
-    pick_higher h =
-        rw (le-ltb c.times d.times m, eq-eqb d.times c.times (omega arith), le-ltb d.left c.left (omega arith), ne_eqb d.left c.left (omega arith))
+  pub pick_some : 0 < d.times → Some d ≡ pick None d
+  unfolding pick told
+  pick_some h = rw (better_none d, lt-ltb 0 d.times h)
 
-    module _ (a : c.left ≤ d.left) (b : d.left ≤ c.left) where
-      pub pick-lower_right : d.right < c.right → d ≡ pick c d
-      unfolding pick ruled
-      pick-lower_right h =
-          rw (le-ltb c.times d.times m, eq-eqb d.times c.times (omega arith), le-ltb d.left c.left a, eq-eqb d.left c.left (omega arith), lt-ltb d.right c.right h)
+  pub pick_none : d.times ≤ 0 → None ≡ pick None d
+  unfolding pick told
+  pick_none h = rw (better_none d, le-ltb 0 d.times (omega arith))
 
-      pub pick-first : c.right ≤ d.right → c ≡ pick c d
-      unfolding pick ruled
-      pick-first h =
-          rw (le-ltb c.times d.times m, eq-eqb d.times c.times (omega arith), le-ltb d.left c.left a, eq-eqb d.left c.left (omega arith), le-ltb d.right c.right h)
+pub ruleset picks = (pick_better, pick_kept, pick_some, pick_none)
 
 -- it is the rule's best of the two
-pub pick-best : (c d : Choice) → ruled (pick c d) ≡ best (ruled c) (ruled d ∷ [])
-unfolding pick best
-pick-best c d = go (better (ruled d) (ruled c))
+pub pick-best : (c : Option Choice) (d : Choice) → told (pick c d) ≡ best (told c) (ruled d ∷ [])
+unfolding pick best told
+pick-best c d = go (better (ruled d) (told c))
   where
-    go : (b : Bool) → ruled (cond b d c) ≡ cond b (ruled d) (ruled c)
+    go : (b : Bool) → told (cond b (Some d) c) ≡ cond b (ruled d) (told c)
     go true = refl
     go false = refl
 
+-- what is better has a count, where what it is better than has one, or is none
+pub better_some : (d : Choice) (c : Option Choice) → ((e : Choice) → c ≡ Some e → 0 < e.times) → better (ruled d) (told c) ≡ true → 0 < d.times
+unfolding told ruled
+better_some d None h e = ltb-true 0 d.times (sym (better_none d) ∙ e)
+better_some d (Some c) h e = go (ltb c.times d.times) (eqb d.times c.times) refl refl e
+  where
+    go : (x y : Bool) → ltb c.times d.times ≡ x → eqb d.times c.times ≡ y → (x || (y && rule.lower_pair (ruled d) (ruled c))) ≡ true → 0 < d.times
+    go true y ex ey k = let z = ltb-true c.times d.times ex in omega arith
+    go false true ex ey k = let z = eqb-true d.times c.times ey in let u = h c refl in omega arith
+    go false false ex ey k = absurd (false≢true k)
+
 -- A PAIR THAT IS KNOWN
-module _ (c : Choice) (s t : ℕ) where
-  pub known_none : c.times ≡ 0 → false ≡ known c s t
-  unfolding known
-  known_none h = rw (le-ltb 0 c.times (omega arith))
-
-  pub known_other : (c.left ≡ s → ⊥) → false ≡ known c s t
-  unfolding known
-  known_other h = rw (ne_eqb c.left s h) (go (ltb 0 c.times))
-    where
-      go : (b : Bool) → false ≡ (b && false)
-      go true = refl
-      go false = refl
-
-  pub known_right : (c.times ≡ 0 → ⊥) → c.left ≡ s → eqb c.right t ≡ known c s t
-  unfolding known
-  known_right h e = rw (lt-ltb 0 c.times (omega arith), eq-eqb c.left s e)
-
+module _ (s t : ℕ) where
   -- what a caller is told
-  pub record Same : Type 0 where
-    pub some : 0 < c.times
+  pub record Same (c : Choice) : Type 0 where
     pub left : c.left ≡ s
     pub right : c.right ≡ t
 
-  pub known-same : known c s t ≡ true → Same
+  pub known-same : (c : Option Choice) → known c s t ≡ true → (P : Type 0) → ((d : Choice) → c ≡ Some d → Same d → P) → P
   unfolding known
-  known-same h = go (ltb 0 c.times) (eqb c.left s) (eqb c.right t) refl refl refl h
+  known-same None h P f = absurd (false≢true h)
+  known-same (Some c) h P f = go (eqb c.left s) (eqb c.right t) refl refl h
     where
-      go : (x y z : Bool) → ltb 0 c.times ≡ x → eqb c.left s ≡ y → eqb c.right t ≡ z → (x && (y && z)) ≡ true → Same
-      go true true true ex ey ez k = record { some = ltb-true 0 c.times ex; left = eqb-true c.left s ey; right = eqb-true c.right t ez }
-      go true true false ex ey ez k = absurd (false≢true k)
-      go true false z ex ey ez k = absurd (false≢true k)
-      go false y z ex ey ez k = absurd (false≢true k)
+      go : (y z : Bool) → eqb c.left s ≡ y → eqb c.right t ≡ z → (y && z) ≡ true → P
+      go true true ey ez k = f c refl (record { left = eqb-true c.left s ey; right = eqb-true c.right t ez })
+      go true false ey ez k = absurd (false≢true k)
+      go false z ey ez k = absurd (false≢true k)

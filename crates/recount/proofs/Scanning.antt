@@ -6,6 +6,8 @@ use Prim.Native.Nat.{ℕ, ◌+◌, ◌-◌, ◌≤◌, ◌<◌}
 use native.Mathlib.Omega.{arith}
 use lib.ListN.{length, drop, drop_of_length-le}
 use borrow.Author.Tests.{not-true, not-false}
+use Rattle.std.specs.Prelude.{Option, Some, None}
+use Rattle.std.proofs.lemmas.Option.{same_Some}
 use Rattle.runs.specs.Parts.{nth}
 use Rattle.rule.specs.Table.{Task}
 use Rattle.rule.specs.Seeding.{Entry}
@@ -16,9 +18,9 @@ use Rattle.word.specs.Layout.{symbol_in, symbols_at, entry_at, Found, words_in}
 use Rattle.word.specs.declared.WordSet.{WordSet}
 use Rattle.word.specs.declared.Span.{Span}
 use Rattle.word.proofs.Views.{symbols_length, symbols_two, symbols_next, corpus-length, drop_entry, under_at}
-use Rattle.recount.specs.Recount.{ruled, pick, known, Weighed, Tried, Chosen}
+use Rattle.recount.specs.Recount.{ruled, told, pick, known, Weighed, Tried, Chosen}
 use Rattle.recount.specs.declared.Choice.{Choice}
-use Rattle.recount.proofs.Picking.{pick-best, Same, known-same}
+use Rattle.recount.proofs.Picking.{pick-best, better_some, Same, known-same}
 use Rattle.rule.proofs.Choosing.{choose-limits}
 
 -- THE BEST OF MANY, and of many more
@@ -49,7 +51,7 @@ module _ (p : List ℕ) (limit : ℕ) (ps : List (List ℕ)) (es : List Entry) (
   unfolding candidates_in
   pair_out h = rw h
 
-  module _ (d : Choice) (w : Weighed es d) where
+  module _ (d : Option Choice) (w : Weighed es d) where
     over : within (limits p limit) ps s t ≡ false → Tried p limit ps es (s ∷ t ∷ []) d d
     unfolding best
     over h = record { is = rw (pair_out h); weighed = w }
@@ -57,23 +59,24 @@ module _ (p : List ℕ) (limit : ℕ) (ps : List (List ℕ)) (es : List Entry) (
     pub try_over : (b : Bool) → b ≡ within (limits p limit) ps s t → not b ≡ true → Tried p limit ps es (s ∷ t ∷ []) d d
     try_over b e h = over (sym e ∙ not-true b h)
 
-    pub try_known : (b : Bool) → b ≡ known d s t → b ≡ true → Tried p limit ps es (s ∷ t ∷ []) d d
-    unfolding ruled
-    try_known b e h = go (within (limits p limit) ps s t) refl
+    -- a pair that is the best so far is no better than itself
+    try_again : (c : Choice) → d ≡ Some c → Same s t c → Tried p limit ps es (s ∷ t ∷ []) d d
+    unfolding told ruled
+    try_again c q same = go (within (limits p limit) ps s t) refl
       where
-        same : Same d s t
-        same = known-same d s t (sym e ∙ h)
-
-        is_here : ruled (here es s t) ≡ ruled d
+        is_here : ruled (here es s t) ≡ told d
         is_here =
-            let n : count s t es ≡ d.times = rw (← same.left, ← same.right) (sym (w.counted same.some)) in
-            rw (n, same.left, same.right)
+            let n : count s t es ≡ c.times = rw (← same.left, ← same.right) (sym (w.counted c q)) in
+            rw (q, n, same.left, same.right)
 
         go : (x : Bool) → within (limits p limit) ps s t ≡ x → Tried p limit ps es (s ∷ t ∷ []) d d
-        go true q = record { is = sym (ap (best (ruled d)) (pair_in q ∙ ap (λ (c : rule.Choice). c ∷ []) is_here) ∙ best_itself (ruled d)); weighed = w }
+        go true q = record { is = sym (ap (best (told d)) (pair_in q ∙ ap (λ (c : rule.Choice). c ∷ []) is_here) ∙ best_itself (told d)); weighed = w }
         go false q = over q
 
-    pub try_this : (b : Bool) → b ≡ within (limits p limit) ps s t → not b ≡ false → (n : ℕ) → n ≡ count s t es → (r : Choice)
+    pub try_known : (b : Bool) → b ≡ known d s t → b ≡ true → Tried p limit ps es (s ∷ t ∷ []) d d
+    try_known b e h = known-same s t d (sym e ∙ h) _ try_again
+
+    pub try_this : (b : Bool) → b ≡ within (limits p limit) ps s t → not b ≡ false → (n : ℕ) → n ≡ count s t es → (r : Option Choice)
         → r ≡ pick d (record { left = s; right = t; times = n }) → Tried p limit ps es (s ∷ t ∷ []) d r
     unfolding pick
     try_this b e h n en r er = record { is = is; weighed = weighed }
@@ -81,15 +84,18 @@ module _ (p : List ℕ) (limit : ℕ) (ps : List (List ℕ)) (es : List Entry) (
         r_is : r ≡ pick d (here es s t)
         r_is = rw en at er
 
-        is : ruled r ≡ best (ruled d) (candidates_in (limits p limit) ps es (s ∷ t ∷ []))
+        is : told r ≡ best (told d) (candidates_in (limits p limit) ps es (s ∷ t ∷ []))
         is = rw (r_is, pair_in (sym e ∙ not-false b h)) (pick-best d (here es s t))
 
-        go : (x : Bool) → Weighed es (cond x (here es s t) d)
-        go true = record { counted = λ _. refl }
-        go false = w
+        go : (x : Bool) → better (ruled (here es s t)) (told d) ≡ x → Weighed es (cond x (Some (here es s t)) d)
+        go true q = record {
+          some = λ c z. let y = same_Some (here es s t) c z in rw (← y) (better_some (here es s t) d w.some q);
+          counted = λ c z. let y = same_Some (here es s t) c z in rw (← y);
+        }
+        go false q = w
 
         weighed : Weighed es r
-        weighed = rw r_is (go (better (ruled (here es s t)) (ruled d)))
+        weighed = rw r_is (go (better (ruled (here es s t)) (told d)) refl)
 
 -- THE POSITIONS OF A WORD
 
@@ -114,76 +120,107 @@ module _ (m at n : ℕ) (cs : List ℕ) (b : Under m (symbols_at at n cs)) (h : 
   under_two : Under m (symbol_in (nth cs at) ∷ symbol_in (nth cs (at + 1)) ∷ symbols_at (at + 1 + 1) (n - 2) cs)
   under_two = rw (symbols_two at n cs h l) at b
 
-  pub under_here : (s : ℕ) → s ≡ symbol_in (nth cs at) → s < m
+  under_here : (s : ℕ) → s ≡ symbol_in (nth cs at) → s < m
   unfolding Under
   under_here s e = rw e under_two.0
 
-  pub under_next : (s : ℕ) → s ≡ symbol_in (nth cs (at + 1)) → s < m
+  under_next : (s : ℕ) → s ≡ symbol_in (nth cs (at + 1)) → s < m
   unfolding Under
   under_next s e = rw e under_two.1.0
 
-  pub under_rest : Under m (symbols_at (at + 1) (n - 1) cs)
+  under_rest : Under m (symbols_at (at + 1) (n - 1) cs)
   unfolding Under
   under_rest = rw (symbols_next at n cs h l) under_two.1
 
--- the loop
+-- the loop, at the i-th symbol: what is to come begins with the symbol before it
 module _ (w : WordSet) (k : ℕ) (cs : List ℕ) (r : Span) (f : Found w k cs r) where
-  pub under_start : (m : ℕ) → AllUnder m (words_in w cs) → k < w.count → Under m (symbols_at r.start r.length cs)
+  one : r.start + 1 - 1 ≡ r.start
+  one = omega arith
+
+  all : r.length + 1 - 1 ≡ r.length
+  all = omega arith
+
+  pub under_start : (m : ℕ) → AllUnder m (words_in w cs) → k < w.count → Under m (symbols_at (r.start + 1 - 1) (r.length + 1 - 1) cs)
   under_start m b h =
-      rw f.symbols (under_at m (words_in w cs) k b (omega (arith, corpus-length cs w.starts w.count)))
+      rw (one, all, f.symbols) (under_at m (words_in w cs) k b (omega (arith, corpus-length cs w.starts w.count)))
 
   pub scan_start : (t : Task) (ps : List (List ℕ)) (c : rule.Choice)
       → best c (candidates_in t ps (words_in w cs) (entry_at (words_in w cs) k).symbols)
-      ≡ best c (candidates_in t ps (words_in w cs) (symbols_at r.start r.length cs))
-  scan_start t ps c = rw f.symbols
+      ≡ best c (candidates_in t ps (words_in w cs) (symbols_at (r.start + 1 - 1) (r.length + 1 - 1) cs))
+  scan_start t ps c = rw (one, all, f.symbols)
 
-module _ (p : List ℕ) (limit : ℕ) (ps : List (List ℕ)) (es : List Entry) (l : List ℕ) (c d : Choice) (at n : ℕ) (cs : List ℕ)
-    (inv : best (ruled c) (candidates_in (limits p limit) ps es l) ≡ best (ruled d) (candidates_in (limits p limit) ps es (symbols_at at n cs)))
-    (room : at + n ≤ length cs) where
-  pub scan_turn : 1 < n → (s t : ℕ) → s ≡ symbol_in (nth cs at) → t ≡ symbol_in (nth cs (at + 1)) → (r : Choice) → Tried p limit ps es (s ∷ t ∷ []) d r
-      → best (ruled c) (candidates_in (limits p limit) ps es l) ≡ best (ruled r) (candidates_in (limits p limit) ps es (symbols_at (at + 1) (n - 1) cs))
-  scan_turn h s t e f r tr =
-      let two : symbols_at at n cs ≡ s ∷ t ∷ symbols_at (at + 1 + 1) (n - 2) cs = rw (e, f) (symbols_two at n cs h room) in
-      let one : symbols_at (at + 1) (n - 1) cs ≡ t ∷ symbols_at (at + 1 + 1) (n - 2) cs = rw f (symbols_next at n cs h room) in
-      inv
-      ∙ rw (two, one, pair-first (limits p limit) ps es s t (symbols_at (at + 1 + 1) (n - 2) cs), tr.is)
-      (best-append (ruled d) (candidates_in (limits p limit) ps es (s ∷ t ∷ [])) (candidates_in (limits p limit) ps es (t ∷ symbols_at (at + 1 + 1) (n - 2) cs)))
+module _ (start n : ℕ) (cs : List ℕ) (room : start + n ≤ length cs) (i : ℕ) (low : 1 ≤ i) where
+  next_at : start + (i + 1) - 1 ≡ start + i - 1 + 1
+  next_at = omega arith
 
-  pub scan_end : n ≤ 1 → Weighed es d → Tried p limit ps es l c d
-  unfolding best
-  scan_end h w =
-      let e = none_in (limits p limit) ps es (symbols_at at n cs) (omega (arith, symbols_length at n cs room)) in
-      record { is = sym (inv ∙ ap (best (ruled d)) e); weighed = w }
+  next_left : n + 1 - (i + 1) ≡ n + 1 - i - 1
+  next_left = omega arith
+
+  this_at : start + i - 1 + 1 ≡ start + i
+  this_at = omega arith
+
+  module _ (m : ℕ) (b : Under m (symbols_at (start + i - 1) (n + 1 - i) cs)) (h : i < n) where
+    pub under_before : (s : ℕ) → s ≡ symbol_in (nth cs (start + i - 1)) → s < m
+    under_before s e = under_here m (start + i - 1) (n + 1 - i) cs b (omega arith) (omega arith) s e
+
+    pub under_this : (t : ℕ) → t ≡ symbol_in (nth cs (start + i)) → t < m
+    under_this t e = under_next m (start + i - 1) (n + 1 - i) cs b (omega arith) (omega arith) t (rw this_at e)
+
+    pub under_more : Under m (symbols_at (start + (i + 1) - 1) (n + 1 - (i + 1)) cs)
+    under_more = rw (next_at, next_left) (under_rest m (start + i - 1) (n + 1 - i) cs b (omega arith) (omega arith))
+
+  module _ (p : List ℕ) (limit : ℕ) (ps : List (List ℕ)) (es : List Entry) (l : List ℕ) (c d : Option Choice)
+      (inv : best (told c) (candidates_in (limits p limit) ps es l)
+      ≡ best (told d) (candidates_in (limits p limit) ps es (symbols_at (start + i - 1) (n + 1 - i) cs))) where
+    pub scan_turn : i < n → (s t : ℕ) → s ≡ symbol_in (nth cs (start + i - 1)) → t ≡ symbol_in (nth cs (start + i)) → (r : Option Choice) → Tried p limit ps es (s ∷ t ∷ []) d r
+        → best (told c) (candidates_in (limits p limit) ps es l)
+        ≡ best (told r) (candidates_in (limits p limit) ps es (symbols_at (start + (i + 1) - 1) (n + 1 - (i + 1)) cs))
+    scan_turn h s t e f r tr =
+        let at : ℕ = start + i - 1 in
+        let left : ℕ = n + 1 - i in
+        let g : t ≡ symbol_in (nth cs (at + 1)) = rw this_at f in
+        let two : symbols_at at left cs ≡ s ∷ t ∷ symbols_at (at + 1 + 1) (left - 2) cs = rw (e, g) (symbols_two at left cs (omega arith) (omega arith)) in
+        let one : symbols_at (at + 1) (left - 1) cs ≡ t ∷ symbols_at (at + 1 + 1) (left - 2) cs = rw g (symbols_next at left cs (omega arith) (omega arith)) in
+        inv
+        ∙ rw (next_at, next_left, two, one, pair-first (limits p limit) ps es s t (symbols_at (at + 1 + 1) (left - 2) cs), tr.is)
+        (best-append (told d) (candidates_in (limits p limit) ps es (s ∷ t ∷ [])) (candidates_in (limits p limit) ps es (t ∷ symbols_at (at + 1 + 1) (left - 2) cs)))
+
+    pub scan_end : n ≤ i → i ≤ n + 1 → Weighed es d → Tried p limit ps es l c d
+    unfolding best
+    scan_end h m w =
+        let e = none_in (limits p limit) ps es (symbols_at (start + i - 1) (n + 1 - i) cs)
+        (omega (arith, symbols_length (start + i - 1) (n + 1 - i) cs (omega arith))) in
+        record { is = sym (inv ∙ ap (best (told d)) e); weighed = w }
 
 -- THE WORDS
 
-pub nothing-weighed : (es : List Entry) → Weighed es (record { left = 0; right = 0; times = 0 })
-nothing-weighed es = record { counted = λ h. absurd (omega arith) }
+pub nothing-weighed : (es : List Entry) → Weighed es None
+nothing-weighed es = record { some = λ d e. cc; counted = λ d e. cc }
 
 -- the loop
 module _ (p : List ℕ) (limit : ℕ) (ps : List (List ℕ)) (w : WordSet) (cs : List ℕ) where
   pub choose_start : choose (limits p limit) ps (words_in w cs)
-      ≡ best (ruled (record { left = 0; right = 0; times = 0 })) (candidates (limits p limit) ps (words_in w cs) (drop 0 (words_in w cs)))
-  unfolding choose ruled
+      ≡ best (told None) (candidates (limits p limit) ps (words_in w cs) (drop 0 (words_in w cs)))
+  unfolding choose told
   choose_start = refl
 
-  module _ (k : ℕ) (d : Choice)
+  module _ (k : ℕ) (d : Option Choice)
       (inv : choose (limits p limit) ps (words_in w cs)
-      ≡ best (ruled d) (candidates (limits p limit) ps (words_in w cs) (drop k (words_in w cs)))) where
-    pub choose-turn : k < w.count → (r : Choice)
+      ≡ best (told d) (candidates (limits p limit) ps (words_in w cs) (drop k (words_in w cs)))) where
+    pub choose-turn : k < w.count → (r : Option Choice)
         → Tried p limit ps (words_in w cs) (entry_at (words_in w cs) k).symbols d r
         → choose (limits p limit) ps (words_in w cs)
-        ≡ best (ruled r) (candidates (limits p limit) ps (words_in w cs) (drop (k + 1) (words_in w cs)))
+        ≡ best (told r) (candidates (limits p limit) ps (words_in w cs) (drop (k + 1) (words_in w cs)))
     unfolding candidates
     choose-turn h r tr =
         inv
         ∙ rw (drop_entry (words_in w cs) k (omega (arith, corpus-length cs w.starts w.count)), tr.is)
-        (best-append (ruled d) (candidates_in (limits p limit) ps (words_in w cs) (entry_at (words_in w cs) k).symbols)
+        (best-append (told d) (candidates_in (limits p limit) ps (words_in w cs) (entry_at (words_in w cs) k).symbols)
         (candidates (limits p limit) ps (words_in w cs) (drop (k + 1) (words_in w cs))))
 
-    pub choose_end : w.count ≤ k → Chosen p limit ps (words_in w cs) d
+    pub choose_end : w.count ≤ k → Weighed (words_in w cs) d → Chosen p limit ps (words_in w cs) d
     unfolding candidates best
-    choose_end h =
+    choose_end h v =
         let l : length (words_in w cs) ≤ k = omega (arith, corpus-length cs w.starts w.count) in
-        let e : choose (limits p limit) ps (words_in w cs) ≡ ruled d = rw (drop_of_length-le (words_in w cs) l) at inv in
-        record { is = λ t ep el. choose-limits t p limit ep el ps (words_in w cs) ∙ e }
+        let e : choose (limits p limit) ps (words_in w cs) ≡ told d = rw (drop_of_length-le (words_in w cs) l) at inv in
+        record { is = λ t ep el. choose-limits t p limit ep el ps (words_in w cs) ∙ e; some = v.some }

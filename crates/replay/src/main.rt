@@ -26,11 +26,13 @@
 // a room is not read.
 #![tactic(auto)]
 
-ghost use Rattle.std.specs.Prelude.{◌<◌, ◌≤◌, IfOk, length};
+ghost use Rattle.std.specs.Prelude.{◌<◌, ◌≤◌, length};
 
+use error::TrainError;
 use std::io;
-use std::io::{Print, Read};
-use trainer::Answer;
+use std::io::Print;
+use table::{Settings, Table};
+use trainer::Trained;
 
 const LF: u8 = 10;
 
@@ -42,34 +44,21 @@ fn print(rt: &impl Print, before: &[u8], n: u64) -> io::Result<()> {
     print!(rt; "{n}")
 }
 
-// The value of a digit, 0 of a byte that is none.
-fn digit(b: u8) -> u8
-    ensures { result < 16 }
-{
-    match b {
-        b'0'..=b'9' => b - b'0',
-        b'a'..=b'f' => b - b'a' + 10,
-        _ => 0,
-    }
-}
-
 // The place behind the k-th byte b, or the text's end where there are not so many.
 fn behind(s: &[u8], b: u8, k: usize) -> usize
     ensures upper_bound { result ≤ length s.now }
     ensures result_nonzero { 0 < k → 0 < length s.now → 0 < result }
 {
     let mut left = k;
-    let mut at = 0;
-    while at < s.len() {
+    for (at, x) in s.iter().enumerate() {
         if left == 0 {
             return at;
         }
-        if s[at] == b {
+        if *x == b {
             left -= 1;
         }
-        at += 1;
     }
-    at
+    s.len()
 }
 
 // The digits of line number k, from 0: none where there is no such line, or its run is empty.
@@ -82,39 +71,17 @@ fn digits<'a>(s: &'a [u8], k: usize) -> &'a [u8] {
     &line[name..]
 }
 
-// Puts the bytes that the digits spell into the room from `at` on, and gives where they end.
-fn spell(room: &mut [u8], at: usize, s: &[u8]) -> usize
-    requires { at ≤ length room.old }
-    ensures { (at ≤ result) × (result ≤ length room.new) }
-{
-    let mut end = at;
-    let mut i = 0;
-    while end < room.len() {
-        if s.len() - i < 2 {
-            return end;
-        }
-        room[end] = digit(s[i]) * 16 + digit(s[i + 1]);
-        end += 1;
-        i += 2;
-    }
-    end
-}
-
 // The checksum of some bytes behind those that come to `start`.
-fn fold(start: u64, s: &[u8]) -> u64
-    requires { start < 4294967296 }
-    ensures { result < 4294967296 }
-{
-    let mut h = start;
-    for i in 0..s.len() {
-        h = (h * 31 + numbers::wide(s[i])) % 4294967296;
-    }
-    h
+fn fold(start: u32, s: &[u8]) -> u32 {
+    s.iter().fold(start, |h, b| {
+        h.wrapping_mul(31).wrapping_add(u32::from(*b))
+    })
 }
 
 // The checksum of an answer that is at the front of the rooms: 0 where it has no pieces, or where
 // it would not fit, which no answer of training does.
-fn checksum(pieces: &[u8], ends: &[u8], merges: &[u8], count: u64, many: u64) -> u64 {
+// Stays: 0 where there is none, as the lines of `stdout` have it.
+fn checksum(pieces: &[u8], ends: &[u8], merges: &[u8], count: u64, many: u64) -> u32 {
     if count == 0 {
         return 0;
     }
@@ -138,23 +105,29 @@ fn checksum(pieces: &[u8], ends: &[u8], merges: &[u8], count: u64, many: u64) ->
 // Writes the line of what training came to.
 fn tell(
     rt: &impl Print,
-    r: Answer,
+    r: Result<Trained, TrainError>,
     piece_bytes: &[u8],
     ends: &[u8],
     pairs: &[u8],
 ) -> io::Result<()> {
     match r {
-        Answer::Done {
-            pieces,
-            alphabet,
-            merges,
-        } => {
+        Ok(
+            Trained {
+                pieces,
+                alphabet,
+                merges,
+            },
+        ) => {
             print(rt, b"", pieces)?;
             print(rt, b" ", alphabet)?;
             print(rt, b" ", merges)?;
-            print(rt, b" ", checksum(piece_bytes, ends, pairs, pieces, merges))?;
+            print(
+                rt,
+                b" ",
+                u64::from(checksum(piece_bytes, ends, pairs, pieces, merges)),
+            )?;
         }
-        Answer::Refused(why) => {
+        Err(why) => {
             print(rt, b"refused ", why.number())?;
             print(rt, b" ", why.first())?;
             print(rt, b" ", why.second())?;
@@ -174,18 +147,24 @@ fn train(rt: &impl Print, room: &[u8], ends: &[u8]) -> io::Result<()> {
     let mut piece_ends = [0u8; 1600];
     let mut merges = [0u8; 3200];
     let mut savings = [0u8; 3200];
+    let t = Table {
+        words: vocab::piece(room, ends, 1),
+        word_ends: vocab::piece(room, ends, 2),
+        frequencies: vocab::piece(room, ends, 3),
+        alphabet: vocab::piece(room, ends, 4),
+        alphabet_ends: vocab::piece(room, ends, 5),
+        prefix: vocab::piece(room, ends, 6),
+        suffix: vocab::piece(room, ends, 7),
+        seeding: numbers::load8(room, 0),
+    };
+    let settings = Settings {
+        vocab_size: numbers::load8(room, 8),
+        min_frequency: numbers::load8(room, 16),
+        max_piece_length: numbers::load8(room, 24),
+    };
     let r = trainer::train(
-        vocab::piece(room, ends, 1),
-        vocab::piece(room, ends, 2),
-        vocab::piece(room, ends, 3),
-        vocab::piece(room, ends, 4),
-        vocab::piece(room, ends, 5),
-        vocab::piece(room, ends, 6),
-        vocab::piece(room, ends, 7),
-        numbers::load8(room, 0),
-        numbers::load8(room, 8),
-        numbers::load8(room, 16),
-        numbers::load8(room, 24),
+        t,
+        settings,
         &mut work,
         &mut pieces,
         &mut piece_ends,
@@ -201,7 +180,7 @@ fn table(rt: &impl Print, s: &[u8]) -> io::Result<()> {
     let mut ends = [0u8; 32];
     let mut end = 0;
     for k in 0..8 {
-        end = spell(&mut room, end, digits(s, k));
+        end = inputs::spell(&mut room, end, digits(s, k));
         numbers::store4(&mut ends, k * 4, end as u32);
     }
     train(rt, &room[0..end], &ends)
@@ -218,26 +197,8 @@ fn run(rt: &impl Print, s: &[u8]) -> io::Result<()> {
     Ok(())
 }
 
-// Reads until the room is full or the input ends, and answers how many bytes came.
-fn read_full<R: Read>(input: &mut R, room: &mut [u8]) -> io::Result<usize>
-    ensures { IfOk result (λ n. n ≤ length room.new) }
-{
-    let mut n = 0;
-    for _ in 0..u64::MAX {
-        if n == room.len() {
-            break;
-        }
-        let more = input.read(&mut room[n..])?;
-        if more == 0 {
-            break;
-        }
-        n += more;
-    }
-    Ok(n)
-}
-
 fn main(rt: HostRuntime) -> io::Result<()> {
     let mut input = [0u8; 131072];
-    let n = read_full(&mut rt.reader(), &mut input)?;
+    let n = inputs::read_full(&mut rt.reader(), &mut input)?;
     run(&rt, &input[..n])
 }

@@ -4,6 +4,9 @@ use mathlib.Core.Bool.{true, false}
 use mathlib.Core.List.{List}
 use Prim.Native.Nat.{ℕ, ◌+◌, ◌-◌, ◌^◌, ◌<◌, ◌≤◌}
 use native.Mathlib.Omega.{arith}
+use Rattle.std.specs.Prelude.{Option, Some, MatchOption, IsSome}
+use Rattle.std.proofs.lemmas.Option.{MatchOption-at_some}
+use Rattle.std.proofs.lemmas.Bool.{some_since}
 use Rattle.runs.specs.Parts.{Kept}
 use Rattle.runs.proofs.Parts.{same_or_not}
 use Rattle.runs.proofs.Frames.{kept_then, kept_wide}
@@ -88,11 +91,14 @@ module _ {p : Pairs} {n a b f k : ℕ} {cs : List ℕ} (can : CanLower p n a b f
   counts : (state p cs k).count ≡ (state p cs (key a b)).count
   counts = ap (λ (q : ℕ). (state p cs q).count) i
 
-  pub lower_some : {v : ℕ} → v ≡ record_of p cs k → 1 ≤ v
-  lower_some e = omega (arith, e, counted_has can.ok over (omega (arith, counts, can.some)))
+  module _ (o : Option ℕ) (found : MatchOption o (record_of p cs k ≡ 0) (λ r. record_of p cs k ≡ r + 1)) where
+    pub lower_some : IsSome o
+    lower_some =
+        some_since o (record_of p cs k ≡ 0) (λ r. record_of p cs k ≡ r + 1) found
+        (λ z. absurd (omega (arith, z, counted_has can.ok over (omega (arith, counts, can.some)))))
 
-  pub lower_has : {v : ℕ} → v ≡ record_of p cs k → Has p k (v - 1) cs
-  lower_has {v} e = let s = lower_some e in has_tied can.ok over (omega (arith, e))
+    pub lower_has : (r : ℕ) → o ≡ Some r → Has p k r cs
+    lower_has r i = has_tied can.ok over (MatchOption-at_some (record_of p cs k ≡ 0) (λ r. record_of p cs k ≡ r + 1) r i found)
 
   pub lower_enough : {c : ℕ} → c ≡ (state p cs k).count → f ≤ c
   lower_enough e = omega (arith, e, counts, can.enough)

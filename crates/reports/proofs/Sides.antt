@@ -1,5 +1,5 @@
 -- The reports of a step: those of one side, a pair lowered and a pair raised, and those of both. Assumes nothing.
-use mathlib.Core.Path.{◌≡◌, refl, sym, ap}
+use mathlib.Core.Path.{refl, sym, ap}
 use mathlib.Core.Bool.{Bool, true, false}
 use mathlib.Core.List.{List, [], ◌∷◌, ◌++◌}
 use Prim.Native.Nat.{ℕ, ◌*◌, ◌<◌, ◌≤◌}
@@ -11,6 +11,7 @@ use Rattle.rule.specs.Rewriting.{bit, is_pair, Report, less, more, before, after
 use Rattle.rule.specs.Sums.{raised, lowered}
 use Rattle.rule.proofs.Rewriting.{pair_hit}
 use Rattle.rule.proofs.Reports.{raised-append, lowered-append}
+use Rattle.std.specs.Prelude.{Option, Some, None}
 use Rattle.step.specs.Step.{standing, following, reports_of}
 use Rattle.step.specs.declared.Step.{Step}
 use Rattle.states.specs.State.{most, key, lower}
@@ -19,7 +20,7 @@ use Rattle.states.proofs.Keys.{key_pos}
 use Rattle.states.proofs.Reports.{reported_none, reported_then, reported_raise, reported_lower}
 use Rattle.pairs.specs.View.{state}
 use Rattle.pairs.specs.declared.Pairs.{Pairs}
-use Rattle.reports.specs.Reports.{beyond, CanRaise, RaiseDone, CanLower, LowerDone, side_of, CanSide, SideDone, CanReport, ReportDone}
+use Rattle.reports.specs.Reports.{beyond, CanRaise, RaiseDone, CanLower, LowerDone, swapped, CanSide, SideDone, CanReport, ReportDone}
 
 bit-most : (c : Bool) → bit c ≤ 1
 bit-most true = omega arith
@@ -27,41 +28,44 @@ bit-most false = omega arith
 
 -- WHAT A SIDE LOWERS AND RAISES
 module _ (a b c d : ℕ) where
-  side_lowers : 1 ≤ lowered a b (side_of true a b c d)
-  unfolding lowered side_of
+  side_lowers : 1 ≤ lowered a b (swapped a b c d)
+  unfolding lowered
   side_lowers = omega (arith, ap bit (pair_hit a b a b refl refl))
 
-  side_raises : 1 ≤ raised c d (side_of true a b c d)
-  unfolding raised side_of
+  side_raises : 1 ≤ raised c d (swapped a b c d)
+  unfolding raised
   side_raises = omega (arith, ap bit (pair_hit c d c d refl refl))
 
   -- no pair twice
-  side_once : (on : Bool) (p q : ℕ) → raised p q (side_of on a b c d) ≤ 1
-  unfolding raised side_of
-  side_once true p q = omega (arith, bit-most (is_pair p q c d))
-  side_once false p q = omega arith
+  side_once : (p q : ℕ) → raised p q (swapped a b c d) ≤ 1
+  unfolding raised
+  side_once p q = omega (arith, bit-most (is_pair p q c d))
 
-  side_small : Small (side_of true a b c d) → (a < most) × (b < most) × (c < most) × (d < most)
-  unfolding Small side_of
+  side_small : Small (swapped a b c d) → (a < most) × (b < most) × (c < most) × (d < most)
+  unfolding Small
   side_small s = (s.0, s.1, s.2.0, s.2.1)
 
+none_once : (p q : ℕ) → raised p q [] ≤ 1
+unfolding raised
+none_once p q = omega arith
+
 -- ONE SIDE: a lowering, then a raise
-module _ (a b c d : ℕ) {p : Pairs} {n f : ℕ} {cs : List ℕ} (can : CanSide p n (side_of true a b c d) f cs) where
+module _ (a b c d : ℕ) {p : Pairs} {n f : ℕ} {cs : List ℕ} (can : CanSide p n (swapped a b c d) f cs) where
   small : (a < most) × (b < most) × (c < most) × (d < most)
   small = side_small a b c d can.small
 
-  true_enough : f ≤ (state p cs (key a b)).count
-  true_enough = omega (arith, can.enough a b small.0 small.1, mul-le-mul_left f (side_lowers a b c d))
+  swap_enough : f ≤ (state p cs (key a b)).count
+  swap_enough = omega (arith, can.enough a b small.0 small.1, mul-le-mul_left f (side_lowers a b c d))
 
-  true_lower : CanLower p n a b f cs
-  true_lower = record {
+  pub swap-lower : CanLower p n a b f cs
+  swap-lower = record {
     ok = can.ok;
     left = small.0;
     right = small.1;
     room = can.room;
     few = omega (arith, can.few);
-    some = omega (arith, true_enough, can.some);
-    enough = true_enough;
+    some = omega (arith, swap_enough, can.some);
+    enough = swap_enough;
   }
 
   module _ {ds : List ℕ} {m : ℕ} (l : LowerDone p n a b f cs ds m) where
@@ -72,8 +76,8 @@ module _ (a b c d : ℕ) {p : Pairs} {n f : ℕ} {cs : List ℕ} (can : CanSide 
         (λ i. rw (i, l.change.here) (omega arith))
         (λ h. rw (l.change.others q z h) (omega arith))
 
-    true_raise : CanRaise p m c d f ds
-    true_raise = record {
+    pub swap-raise : CanRaise p m c d f ds
+    swap-raise = record {
       ok = l.ok;
       left = small.2;
       right = small.3;
@@ -84,16 +88,15 @@ module _ (a b c d : ℕ) {p : Pairs} {n f : ℕ} {cs : List ℕ} (can : CanSide 
     }
 
     module _ (w : ℕ) {es : List ℕ} {m' : ℕ} (r : RaiseDone p m c d f w ds es m') where
-      true_reported : Reported f w (side_of true a b c d) (state p cs) (state p es)
-      unfolding side_of
-      true_reported = reported_then f w (less a b ∷ []) (more c d ∷ [])
-          (reported_lower f w a b small.0 small.1 true_enough l.change)
+      swap_reported : Reported f w (swapped a b c d) (state p cs) (state p es)
+      swap_reported = reported_then f w (less a b ∷ []) (more c d ∷ [])
+          (reported_lower f w a b small.0 small.1 swap_enough l.change)
           (reported_raise f w c d small.2 small.3 r.change)
 
-      true_done : SideDone p n (side_of true a b c d) f w cs es m'
-      true_done = record {
+      pub swap-done : SideDone p n (swapped a b c d) f w cs es m'
+      swap-done = record {
         ok = r.ok;
-        reported = true_reported;
+        reported = swap_reported;
         listing = λ e h g. r.listing e
             (λ i. let z = h c d small.2 small.3 (sym i) in omega (arith, z, side_raises a b c d))
             (l.listing e g);
@@ -104,31 +107,18 @@ module _ (a b c d : ℕ) {p : Pairs} {n f : ℕ} {cs : List ℕ} (can : CanSide 
         kept = kept_then l.kept r.kept;
       }
 
--- by the test of the code
-module _ (on : Bool) (a b c d : ℕ) {n f : ℕ} {p : Pairs} {cs : List ℕ} where
-  pub side-lower : on ≡ true → CanSide p n (side_of on a b c d) f cs → CanLower p n a b f cs
-  side-lower t can = true_lower a b c d (rw t at can)
-
-  pub side-raise : {ds : List ℕ} {m : ℕ} → on ≡ true → CanSide p n (side_of on a b c d) f cs → LowerDone p n a b f cs ds m → CanRaise p m c d f ds
-  side-raise t can l = true_raise a b c d (rw t at can) l
-
-  pub side_on : {ds es : List ℕ} {m m' : ℕ} (w : ℕ) → on ≡ true → CanSide p n (side_of on a b c d) f cs → LowerDone p n a b f cs ds m → RaiseDone p m c d f w ds es m'
-      → SideDone p n (side_of on a b c d) f w cs es m'
-  side_on w t can l r = rw t (true_done a b c d (rw t at can) l w r)
-
-  -- where no symbol stands there, nothing is reported
-  pub side_off : (w : ℕ) → on ≡ false → CanSide p n (side_of on a b c d) f cs → SideDone p n (side_of on a b c d) f w cs cs n
-  unfolding side_of
-  side_off w t can = record {
-    ok = can.ok;
-    reported = rw t (reported_none f w (state p cs) (state p cs) (λ q z. refl));
-    listing = λ e h g. g;
-    records = λ q v z h. h;
-    least = omega arith;
-    more = omega arith;
-    most = omega arith;
-    kept = kept_none p.base (beyond p) cs;
-  }
+-- where no symbol stands there, nothing is reported
+pub side_none : (w : ℕ) {p : Pairs} {n f : ℕ} {cs : List ℕ} → CanSide p n [] f cs → SideDone p n [] f w cs cs n
+side_none w {p} {n} {f} {cs} can = record {
+  ok = can.ok;
+  reported = reported_none f w (state p cs) (state p cs) (λ q z. refl);
+  listing = λ e h g. g;
+  records = λ q v z h. h;
+  least = omega arith;
+  more = omega arith;
+  most = omega arith;
+  kept = kept_none p.base (beyond p) cs;
+}
 
 -- BOTH SIDES: some reports, then others
 small_left : (rs ss : List Report) → Small (rs ++ ss) → Small rs
@@ -183,35 +173,29 @@ module _ {p : Pairs} {n f : ℕ} (rs ss : List Report) {cs : List ℕ} where
     }
 
 -- A STEP tells of the side before it and of the side after it
-before-side : (on : Bool) (v a x : ℕ) → before a x (standing on v) ≡ side_of on v a v x
-unfolding before side_of
-before-side true v a x = refl
-before-side false v a x = refl
-
-after-side : (on : Bool) (v b x : ℕ) → after b x (following on v) ≡ side_of on b v x v
-unfolding after side_of
-after-side true v b x = refl
-after-side false v b x = refl
+before_once : (a x : ℕ) (previous : Option ℕ) (p q : ℕ) → raised p q (before a x (standing previous)) ≤ 1
+unfolding before
+before_once a x None = none_once
+before_once a x (Some s) = side_once s a s x
 
 module _ (a b x : ℕ) (st : Step) where
   abbrev first : List Report
-  first = side_of st.behind st.previous a st.previous x
+  first = before a x (standing st.behind)
 
   abbrev second : List Report
-  second = side_of st.ahead b st.next x st.next
-
-  sides : reports_of a b x st ≡ first ++ second
-  unfolding reports_of
-  sides = rw (before-side st.behind st.previous a x, after-side st.ahead st.next b x)
+  second = after b x (following st.ahead)
 
   module _ {p : Pairs} {n f : ℕ} {cs : List ℕ} where
     pub report_first : CanReport p n (reports_of a b x st) f cs → CanSide p n first f cs
-    report_first can = two_first first second (rw sides at can)
+    unfolding reports_of
+    report_first can = two_first first second can
 
     module _ (w : ℕ) {ds : List ℕ} {m : ℕ} where
       pub report_second : CanReport p n (reports_of a b x st) f cs → SideDone p n first f w cs ds m → CanSide p m second f ds
-      report_second can d = two_second first second w d (side_once st.previous a st.previous x st.behind) (rw sides at can)
+      unfolding reports_of
+      report_second can d = two_second first second w d (before_once a x st.behind) can
 
       pub report_done : {es : List ℕ} {m' : ℕ} → SideDone p n first f w cs ds m → SideDone p m second f w ds es m'
           → ReportDone p n (reports_of a b x st) f w cs es m'
-      report_done d e = rw sides (two_done first second w d e)
+      unfolding reports_of
+      report_done d e = two_done first second w d e

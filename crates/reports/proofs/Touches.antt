@@ -22,15 +22,6 @@ use Rattle.pairs.proofs.Clients.{pairs_kept}
 use Rattle.reports.specs.Reports.{beyond, keys_of, Listing, Staying, touch, CanTouch, TouchDone}
 use Rattle.reports.proofs.Listed.{keys_length, keys_more, links_kept, keys_kept, listing_moves, touching_same}
 
--- the marks by the test of the code
-module _ {gain : Bool} (w : ℕ) {m : ℕ} where
-  pub mark_gained : {r : ℕ} → gain ≡ true → m ≡ marking touched true w → r ≡ marking gained true m
-      → r ≡ cond gain (marking gained true (marking touched true w)) (marking touched true w)
-  mark_gained t e f = rw (t, ← e) f
-
-  pub mark_touched : gain ≡ false → m ≡ marking touched true w → m ≡ cond gain (marking gained true (marking touched true w)) (marking touched true w)
-  mark_touched t e = rw t e
-
 -- THE MARKS OF A TOUCH
 module _ (s : State) where
   touch_touched : (gain : Bool) → marked touched (touch gain s).marks ≡ true

@@ -88,9 +88,9 @@ pub record LowerDone (p : Pairs) (n a b f : ℕ) (was is : List ℕ) (n' : ℕ) 
   pub most : n' ≤ n + 1
   pub kept : Kept p.base (beyond p) was is
 
--- THE REPORTS OF ONE SIDE OF A STEP, where a symbol stands there: (a,b) -1 and (c,d) +1
-unfoldable pub side_of : Bool → ℕ → ℕ → ℕ → ℕ → List Report
-side_of on a b c d = cond on (less a b ∷ more c d ∷ []) []
+-- THE REPORTS OF ONE SIDE OF A STEP where a symbol stands there: (a,b) -1 and (c,d) +1
+abbrev pub swapped : ℕ → ℕ → ℕ → ℕ → List Report
+swapped a b c d = less a b ∷ more c d ∷ []
 
 pub record CanSide (p : Pairs) (n : ℕ) (rs : List Report) (f : ℕ) (cs : List ℕ) : Type 0 where
   pub ok : Pairing p cs

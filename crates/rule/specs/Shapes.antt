@@ -3,8 +3,8 @@ use Rattle.std.specs.Prelude.{Bool, true, false, ◌&&◌, ◌||◌, ℕ, suc, �
 use mathlib.Core.List.{List, [], ◌∷◌, ◌++◌, flat_map}
 use Rattle.runs.specs.Parts.{part, zeros}
 use Rattle.order.specs.Order.{compared}
-use Rattle.order.specs.declared.Order.{Order}
-use Rattle.order.specs.declared.Order.TheVariants.{Below, Same, Above}
+use Rattle.std.specs.declared.cmp.Ordering.{Ordering}
+use Rattle.std.specs.declared.cmp.Ordering.TheVariants.{Less, Equal, Greater}
 use Rattle.numbers.specs.Little.{spell, numbers}
 
 -- "whole 4s", "whole 8s"
@@ -39,10 +39,10 @@ unfoldable pub shaped : List ℕ → List ℕ → Bool
 shaped run ends = wholes 4 ends && rise_to (length run) 0 (numbers 4 ends)
 
 -- byte order as a test
-unfoldable pub is_below : Order → Bool
-is_below Below = true
-is_below Same = false
-is_below Above = false
+unfoldable pub is_below : Ordering → Bool
+is_below Less = true
+is_below Equal = false
+is_below Greater = false
 
 -- "in byte order": v strictly below w
 unfoldable pub below : List ℕ → List ℕ → Bool

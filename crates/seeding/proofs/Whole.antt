@@ -22,13 +22,13 @@ use Rattle.intern.specs.Pieces.{pieces}
 use Rattle.intern.specs.Many.{Ran, Exceed}
 use Rattle.intern.proofs.Rooms.{pieces_none}
 use Rattle.intern.proofs.Many.{pieces_empty, exceed-more, exceed_lengths}
-use Rattle.alphabet.specs.declared.Seeded.{Seeded}
-use Rattle.alphabet.specs.declared.Seeded.TheVariants as seeded
+use Rattle.error.specs.declared.NoRoom.{NoRoom}
+use Rattle.vocab.specs.declared.Filled.{Filled}
+use Rattle.std.specs.Prelude.{Result, Ok, Err, IsErr}
 use Rattle.units.specs.Gathering.{all_units}
 use Rattle.units.proofs.Popping.{heaped_kept}
 use Rattle.encoding.specs.Encoding.{all_decorated, decorated_units}
 use Rattle.encoding.specs.declared.Encoded.{Encoded}
-use Rattle.encoding.specs.declared.Encoded.TheVariants as encoded
 use Rattle.layout.specs.Layout.{units_at, table_at, spellings_for, cells_for}
 use Rattle.seeding.specs.Seeding.{table, Counting, Counted, CanBegin, FirstDone, CanGoOn, RestDone, CanSeed, SeedDone}
 
@@ -125,28 +125,30 @@ module _ (ws es fs al ae p s : List ℕ) (seeding units : ℕ) (rs : List ℕ) (
       short_seeds = seeds_small (table ws es fs al ae p s seeding) b g.prefix_short g.suffix_short g.symbol_bytes_few g.symbols_shaped
 
       -- what exceeds the rooms is not the 4 bytes of an end
-      exceeded : (cs vs zs : List ℕ) → Exceed (seeds (table ws es fs al ae p s seeding)) xs ys → SeedDone encoded.NoRoom (table ws es fs al ae p s seeding) units xs ys cs vs zs
+      exceeded : (cs vs zs : List ℕ) (r : Result Encoded NoRoom) → IsErr r → Exceed (seeds (table ws es fs al ae p s seeding)) xs ys
+          → SeedDone r (table ws es fs al ae p s seeding) units xs ys cs vs zs
       unfolding Exceed SeedDone
-      exceeded cs vs zs (inl h) = inl h
-      exceeded cs vs zs (inr (inl h)) = inr h
-      exceeded cs vs zs (inr (inr h)) = absurd (omega (arith, short_seeds))
+      exceeded cs vs zs (Ok r) w h = absurd cc
+      exceeded cs vs zs (Err y) w (inl h) = inl h
+      exceeded cs vs zs (Err y) w (inr (inl h)) = inr h
+      exceeded cs vs zs (Err y) w (inr (inr h)) = absurd (omega (arith, short_seeds))
 
-      module _ (base cap : ℕ) (eb : base ≡ table_at units) (ec : cap ≡ spellings_for first (length ae / 4)) (a : Seeded) (ks vs zs : List ℕ)
-          (d : FirstDone a base cap (first_seeds seeding (units_of seeding ws es)) xs ys (cells ks) vs zs) where
-        pub whole_out : a ≡ seeded.NoRoom → (cs ls ms : List ℕ) → SeedDone encoded.NoRoom (table ws es fs al ae p s seeding) units xs ys cs ls ms
+      module _ (base cap : ℕ) (eb : base ≡ table_at units) (ec : cap ≡ spellings_for first (length ae / 4)) (ks vs zs : List ℕ) where
+        pub whole_out : (x : NoRoom) → FirstDone (Err x) base cap (first_seeds seeding (units_of seeding ws es)) xs ys (cells ks) vs zs
+            → (cs ls ms : List ℕ) (r : Result Encoded NoRoom) → IsErr r → SeedDone r (table ws es fs al ae p s seeding) units xs ys cs ls ms
         unfolding FirstDone
-        whole_out q cs ls ms =
-            exceeded cs ls ms (rw seeds_are (exceed-more (foldl intern (pieces xs ys 0) (first_seeds seeding (units_of seeding ws es))) (parts_by al ae ++ flat_map (λ d. d) (all_decorated seeding p s ws es)) xs ys (rw q at d)))
+        whole_out x d cs ls ms r w =
+            exceeded cs ls ms r w (rw seeds_are (exceed-more (foldl intern (pieces xs ys 0) (first_seeds seeding (units_of seeding ws es))) (parts_by al ae ++ flat_map (λ d. d) (all_decorated seeding p s ws es)) xs ys d))
 
-        module _ (c u : ℕ) (q : a ≡ seeded.Done c u) where
-          ran : Ran base cap 0 0 (foldl intern (pieces xs ys 0) (first_seeds seeding (units_of seeding ws es))) [] xs ys (cells ks) vs zs c u
+        module _ (f : Filled) (d : FirstDone (Ok f) base cap (first_seeds seeding (units_of seeding ws es)) xs ys (cells ks) vs zs) where
+          ran : Ran base cap 0 0 (foldl intern (pieces xs ys 0) (first_seeds seeding (units_of seeding ws es))) [] xs ys (cells ks) vs zs f.count f.used
           unfolding FirstDone
-          ran = rw q at d
+          ran = d
 
-          all : foldl intern (pieces vs zs c) (parts_by al ae ++ flat_map (λ d. d) (all_decorated seeding p s ws es)) ≡ seeds (table ws es fs al ae p s seeding)
+          all : foldl intern (pieces vs zs f.count) (parts_by al ae ++ flat_map (λ d. d) (all_decorated seeding p s ws es)) ≡ seeds (table ws es fs al ae p s seeding)
           all = ap (λ (ps : List (List ℕ)). foldl intern ps (parts_by al ae ++ flat_map (λ d. d) (all_decorated seeding p s ws es))) ran.are ∙ sym seeds_are
 
-          pub whole_on : CanGoOn base cap c u units seeding ws es fs al ae p s ks vs zs
+          pub whole_on : CanGoOn base cap f.count f.used units seeding ws es fs al ae p s ks vs zs
           unfolding table decorated_units
           whole_on = record {
             ok = ran.ok;
@@ -159,22 +161,23 @@ module _ (ws es fs al ae p s : List ℕ) (seeding units : ℕ) (rs : List ℕ) (
             place = eb;
           }
 
-          pub whole_done : (e : Encoded) (cs ls ms : List ℕ) → RestDone e base cap c u units (parts_by al ae) (all_decorated seeding p s ws es) fs vs zs cs ls ms
+          pub whole_done : (e : Result Encoded NoRoom) (cs ls ms : List ℕ) → RestDone e base cap f.count f.used units (parts_by al ae) (all_decorated seeding p s ws es) fs vs zs cs ls ms
               → SeedDone e (table ws es fs al ae p s seeding) units xs ys cs ls ms
           unfolding RestDone SeedDone table kept decorated frequencies word_units all_decorated
           whole_done e cs ls ms h = go e h
             where
-              go : (r : Encoded) → RestDone r base cap c u units (parts_by al ae) (all_decorated seeding p s ws es) fs vs zs cs ls ms → SeedDone r (table ws es fs al ae p s seeding) units xs ys cs ls ms
-              go (encoded.Done c₂ u₂ w) i =
+              go : (r : Result Encoded NoRoom) → RestDone r base cap f.count f.used units (parts_by al ae) (all_decorated seeding p s ws es) fs vs zs cs ls ms → SeedDone r (table ws es fs al ae p s seeding) units xs ys cs ls ms
+              go (Ok q) i =
                   let r = i.0 in
                   record {
                     held = r.ok.rooms;
                     are = r.are ∙ all;
-                    bytes = kept_then (kept_wide {lo = 0} {hi = u} 0 u₂ (omega arith) r.grows ran.bytes) (kept_wide {lo = u} {hi = u₂} 0 u₂ (omega arith) (omega arith) r.bytes);
-                    ends = kept_then (kept_wide {lo = 0 * 4} {hi = c * 4} 0 (c₂ * 4) (omega arith) (omega (arith, r.least)) ran.ends)
-                        (kept_wide {lo = c * 4} {hi = c₂ * 4} 0 (c₂ * 4) (omega arith) (omega arith) r.ends);
+                    bytes = kept_then (kept_wide {lo = 0} {hi = f.used} 0 q.filled.used (omega arith) r.grows ran.bytes)
+                        (kept_wide {lo = f.used} {hi = q.filled.used} 0 q.filled.used (omega arith) (omega arith) r.bytes);
+                    ends = kept_then (kept_wide {lo = 0 * 4} {hi = f.count * 4} 0 (q.filled.count * 4) (omega arith) (omega (arith, r.least)) ran.ends)
+                        (kept_wide {lo = f.count * 4} {hi = q.filled.count * 4} 0 (q.filled.count * 4) (omega arith) (omega arith) r.ends);
                     words = i.1;
                     view = i.2 ∙ ap (λ (ps : List (List ℕ)). kept_with ps (numbers 8 fs) (all_decorated seeding p s ws es)) all;
                     top = i.3;
                   }
-              go encoded.NoRoom i = exceeded cs ls ms (rw all at (exceed_lengths _ xs ys vs zs ran.bytes.long ran.ends.long i))
+              go (Err x) i = exceeded cs ls ms (Err x) refl (rw all at (exceed_lengths _ xs ys vs zs ran.bytes.long ran.ends.long i))

@@ -1,5 +1,5 @@
 -- Seeding in its stages, and as a whole: "the pieces before the first merge, and the words in their numbers".
-use Rattle.std.specs.Prelude.{◌≡◌, true, ◌⊎◌, ℕ, ◌+◌, ◌*◌, ◌/◌, ◌<◌, ◌≤◌, length}
+use Rattle.std.specs.Prelude.{◌≡◌, true, ◌⊎◌, ℕ, ◌+◌, ◌*◌, ◌/◌, ◌<◌, ◌≤◌, length, Result, Ok, Err}
 use mathlib.Core.List.{List, [], ◌++◌, map, flat_map, foldl}
 use Rattle.runs.specs.Parts.{Kept}
 use Rattle.numbers.specs.Little.{numbers}
@@ -8,17 +8,17 @@ use Rattle.rule.specs.Shapes.{parts_by, shaped}
 use Rattle.rule.specs.Table.{Task, A, U, chars, units_of, total, room_for}
 use Rattle.rule.specs.Seeding.{intern, first_seeds, seeds, kept_with, kept}
 use Rattle.rule.specs.Layout.{piece_bytes}
+use Rattle.table.specs.declared.Table.{Table}
 use Rattle.intern.specs.Pieces.{pieces, Held}
 use Rattle.intern.specs.Intern.{Pieces}
 use Rattle.intern.specs.Many.{Ran, Exceed}
-use Rattle.alphabet.specs.declared.Seeded.{Seeded}
-use Rattle.alphabet.specs.declared.Seeded.TheVariants as seeded
+use Rattle.error.specs.declared.NoRoom.{NoRoom}
+use Rattle.vocab.specs.declared.Filled.{Filled}
 use Rattle.units.specs.Gathering.{all_units, Heaped}
 use Rattle.word.specs.Layout.{Words, words_in}
 use Rattle.word.specs.declared.WordSet.{WordSet}
 use Rattle.encoding.specs.Encoding.{decorated_units}
 use Rattle.encoding.specs.declared.Encoded.{Encoded}
-use Rattle.encoding.specs.declared.Encoded.TheVariants as encoded
 use Rattle.layout.specs.Layout.{units_at, table_at, cells_for}
 
 -- a table and its marks as a task: seeding asks for no other setting
@@ -36,6 +36,10 @@ table ws es fs al ae p s seeding = record {
   min_frequency = 0;
   max_piece_length = 0;
 }
+
+-- the same of a table as it is lent
+abbrev pub lent : Table → Task
+lent t = table t.words.now t.word_ends.now t.frequencies.now t.alphabet.now t.alphabet_ends.now t.prefix.now t.suffix.now t.seeding
 
 -- THE SEEDS THAT COME FIRST are counted in a room that document 01 asks for, whatever the alphabet
 pub record Counting (seeding units : ℕ) (ws es rs : List ℕ) : Type 0 where
@@ -57,9 +61,9 @@ pub record CanBegin (seeding units base cap n : ℕ) (ws es cs xs ys : List ℕ)
   pub slots : n < cap
   pub below : chars seeding ≡ true → units_at units + 2 * n ≤ base
 
-unfoldable pub FirstDone : Seeded → ℕ → ℕ → List (List ℕ) → List ℕ → List ℕ → List ℕ → List ℕ → List ℕ → Type 0
-FirstDone (seeded.Done c u) base cap ss xs ys ds vs ws = Ran base cap 0 0 (foldl intern (pieces xs ys 0) ss) [] xs ys ds vs ws c u
-FirstDone seeded.NoRoom base cap ss xs ys ds vs ws = Exceed (foldl intern (pieces xs ys 0) ss) xs ys
+unfoldable pub FirstDone : Result Filled NoRoom → ℕ → ℕ → List (List ℕ) → List ℕ → List ℕ → List ℕ → List ℕ → List ℕ → Type 0
+FirstDone (Ok f) base cap ss xs ys ds vs ws = Ran base cap 0 0 (foldl intern (pieces xs ys 0) ss) [] xs ys ds vs ws f.count f.used
+FirstDone (Err e) base cap ss xs ys ds vs ws = Exceed (foldl intern (pieces xs ys 0) ss) xs ys
 
 -- THE INITIAL ALPHABET AND THE WORDS come behind them
 pub record CanGoOn (base cap c u units seeding : ℕ) (wb we fs al ae p s rs xs ys : List ℕ) : Type 0 where
@@ -72,13 +76,13 @@ pub record CanGoOn (base cap c u units seeding : ℕ) (wb we fs al ae p s rs xs 
   pub units_are : units ≡ total (map length (units_of seeding wb we))
   pub place : base ≡ table_at units
 
-unfoldable pub RestDone : Encoded → ℕ → ℕ → ℕ → ℕ → ℕ → List (List ℕ) → List (List (List ℕ)) → List ℕ → List ℕ → List ℕ → List ℕ → List ℕ → List ℕ → Type 0
-RestDone (encoded.Done c' u' w) base cap c u units al ds fs xs ys cs vs ws =
-    Ran base cap c u (foldl intern (pieces xs ys c) (al ++ flat_map (λ d. d) ds)) [] xs ys cs vs ws c' u'
-    × Words w cs
-    × (words_in w cs ≡ kept_with (foldl intern (pieces xs ys c) (al ++ flat_map (λ d. d) ds)) (numbers 8 fs) ds)
-    × (w.top ≤ units_at units)
-RestDone encoded.NoRoom base cap c u units al ds fs xs ys cs vs ws = Exceed (foldl intern (pieces xs ys c) (al ++ flat_map (λ d. d) ds)) xs ys
+unfoldable pub RestDone : Result Encoded NoRoom → ℕ → ℕ → ℕ → ℕ → ℕ → List (List ℕ) → List (List (List ℕ)) → List ℕ → List ℕ → List ℕ → List ℕ → List ℕ → List ℕ → Type 0
+RestDone (Ok r) base cap c u units al ds fs xs ys cs vs ws =
+    Ran base cap c u (foldl intern (pieces xs ys c) (al ++ flat_map (λ d. d) ds)) [] xs ys cs vs ws r.filled.count r.filled.used
+    × Words r.words cs
+    × (words_in r.words cs ≡ kept_with (foldl intern (pieces xs ys c) (al ++ flat_map (λ d. d) ds)) (numbers 8 fs) ds)
+    × (r.words.top ≤ units_at units)
+RestDone (Err e) base cap c u units al ds fs xs ys cs vs ws = Exceed (foldl intern (pieces xs ys c) (al ++ flat_map (λ d. d) ds)) xs ys
 
 -- ALL OF IT, of a table that rows 1 to 7 do not refuse
 pub record CanSeed (t : Task) (units : ℕ) (rs : List ℕ) : Type 0 where
@@ -104,6 +108,6 @@ pub record Sown (t : Task) (units : ℕ) (xs ys cs vs ws : List ℕ) (c u : ℕ)
   pub view : words_in w cs ≡ kept t
   pub top : w.top ≤ units_at units
 
-unfoldable pub SeedDone : Encoded → Task → ℕ → List ℕ → List ℕ → List ℕ → List ℕ → List ℕ → Type 0
-SeedDone (encoded.Done c u w) t units xs ys cs vs ws = Sown t units xs ys cs vs ws c u w
-SeedDone encoded.NoRoom t units xs ys cs vs ws = (length ys < length (seeds t) * 4) ⊎ (length xs < length (piece_bytes (seeds t)))
+unfoldable pub SeedDone : Result Encoded NoRoom → Task → ℕ → List ℕ → List ℕ → List ℕ → List ℕ → List ℕ → Type 0
+SeedDone (Ok r) t units xs ys cs vs ws = Sown t units xs ys cs vs ws r.filled.count r.filled.used r.words
+SeedDone (Err e) t units xs ys cs vs ws = (length ys < length (seeds t) * 4) ⊎ (length xs < length (piece_bytes (seeds t)))

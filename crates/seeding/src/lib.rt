@@ -5,17 +5,22 @@
 // to the caller to clear.
 #![tactic(auto)]
 
-ghost use Rattle.std.specs.Prelude.{◌≡◌, ◌*◌, ◌/◌};
+ghost use Rattle.std.specs.Prelude.{◌≡◌, true};
+ghost use Rattle.runs.specs.Parts.{Bytes};
 ghost use Rattle.cells.specs.Cells.{cells};
 ghost use Rattle.rule.specs.Shapes.{parts_by};
-ghost use Rattle.rule.specs.Table.{units_of};
+ghost use Rattle.rule.specs.Table.{chars, units_of};
 ghost use Rattle.rule.specs.Seeding.{first_seeds};
 ghost use Rattle.encoding.specs.Encoding.{all_decorated};
-ghost use Rattle.seeding.specs.Seeding.{table, Counting, Counted, CanBegin, FirstDone, CanGoOn, RestDone, CanSeed, SeedDone};
+ghost use Rattle.seeding.specs.Seeding.{lent, CanSeed, SeedDone};
+ghost use Rattle.seeding.specs.Seeding.{Counting, Counted, CanBegin, FirstDone, CanGoOn, RestDone};
 
-use alphabet::Seeded;
+use cells::Ring;
 use encoding::Encoded;
+use error::NoRoom;
+use table::Table;
 use text::Seeding;
+use vocab::Filled;
 
 // The byte values.
 const BYTE_VALUES: usize = 256;
@@ -29,123 +34,86 @@ fn gather_units(
     units: usize,
 ) -> usize
     requires counting { Counting seeding units words.now word_ends.now room.old }
-    requires seeding_value { seeding ≡ 1 }
+    requires seeding_value { chars seeding ≡ true }
     ensures { Counted seeding units words.now word_ends.now (cells room.new) result }
 {
-    let at = layout::table_at(units);
-    let slots = layout::slots_for(units);
-    cells::clear_cells(room, at, 2 * slots);
-    units::gather(
-        room,
-        layout::units_at(units),
-        at,
-        slots,
-        words,
-        word_ends,
-        seeding,
-    )
+    let ring = Ring {
+        base: layout::table_at(units),
+        cap: layout::slots_for(units),
+    };
+    cells::clear_cells(room, ring.base, 2 * ring.cap);
+    let heap = layout::units_at(units);
+    units::gather(room, heap, ring, words, word_ends, seeding)
 }
 
 // How many seeds come first. Under Chars they then stand in order behind the words.
+// Stays: words, ends and seeding apart. Tried: of runs within a Table the proof did not know that they are bytes.
 fn count_first(room: &mut [u8], words: &[u8], word_ends: &[u8], seeding: u64, units: usize) -> usize
     requires { Counting seeding units words.now word_ends.now room.old }
-    ensures { Counted seeding units words.now word_ends.now (cells room.new) result }
+    ensures counted { Counted seeding units words.now word_ends.now (cells room.new) result }
+    ensures bytes { Bytes words.now }
 {
-    if seeding == 1 {
-        return gather_units(room, words, word_ends, seeding, units);
+    match Seeding::from_number(seeding) {
+        Seeding::Bytes => BYTE_VALUES,
+        Seeding::Chars => gather_units(room, words, word_ends, seeding, units),
     }
-    BYTE_VALUES
 }
 
 // Interns the seeds that come first: the byte values, or the distinct units in byte order.
+// Stays: the rooms apart, as in intern::intern.
 fn seed_first(
     room: &mut [u8],
-    base: usize,
-    cap: usize,
+    ring: Ring,
     pieces: &mut [u8],
     ends: &mut [u8],
     first: usize,
-    words: &[u8],
-    word_ends: &[u8],
-    seeding: u64,
+    t: Table,
     units: usize,
-) -> Seeded
-    requires { CanBegin seeding units base cap first words.now word_ends.now (cells room.old) pieces.old ends.old }
-    ensures { FirstDone result base cap (first_seeds seeding (units_of seeding words.now word_ends.now))
+) -> Result<Filled, NoRoom>
+    requires { CanBegin t.seeding units ring.base ring.cap first t.words.now t.word_ends.now
+        (cells room.old) pieces.old ends.old }
+    ensures { FirstDone result ring.base ring.cap
+        (first_seeds t.entry.seeding (units_of t.entry.seeding t.entry.words.now t.entry.word_ends.now))
         pieces.old ends.old (cells room.new) pieces.new ends.new }
 {
-    if seeding == 1 {
-        return units::drain(
-            room,
-            layout::units_at(units),
-            first,
-            base,
-            cap,
-            pieces,
-            ends,
-        );
+    match Seeding::from_number(t.seeding) {
+        Seeding::Bytes => alphabet::seed_bytes(room, ring, pieces, ends),
+        Seeding::Chars => {
+            let heap = layout::units_at(units);
+            units::drain(room, heap, first, ring, pieces, ends)
+        }
     }
-    alphabet::seed_bytes(room, base, cap, pieces, ends)
 }
 
 // Interns the initial alphabet and the words' decorated units, and makes the words a set.
 fn seed_rest(
     room: &mut [u8],
-    base: usize,
-    cap: usize,
+    ring: Ring,
     pieces: &mut [u8],
     ends: &mut [u8],
-    count: usize,
-    used: usize,
-    words: &[u8],
-    word_ends: &[u8],
-    frequencies: &[u8],
-    alphabet: &[u8],
-    alphabet_ends: &[u8],
-    prefix: &[u8],
-    suffix: &[u8],
-    seeding: u64,
+    filled: Filled,
+    t: Table,
     units: usize,
-) -> Encoded
-    requires { CanGoOn base cap count used units seeding words.now word_ends.now frequencies.now alphabet.now alphabet_ends.now prefix.now suffix.now
+) -> Result<Encoded, NoRoom>
+    requires { CanGoOn ring.base ring.cap filled.count filled.used units t.seeding t.words.now t.word_ends.now
+        t.frequencies.now t.alphabet.now t.alphabet_ends.now t.prefix.now t.suffix.now
         room.old pieces.old ends.old }
-    ensures { RestDone result base cap count used units (parts_by alphabet.now alphabet_ends.now)
-        (all_decorated seeding prefix.now suffix.now words.now word_ends.now) frequencies.now
-        pieces.old ends.old (cells room.new) pieces.new ends.new }
+    ensures { RestDone result ring.base ring.cap filled.count filled.used units
+        (parts_by t.entry.alphabet.now t.entry.alphabet_ends.now)
+        (all_decorated t.entry.seeding t.entry.prefix.now t.entry.suffix.now t.entry.words.now t.entry.word_ends.now)
+        t.entry.frequencies.now pieces.old ends.old (cells room.new) pieces.new ends.new }
 {
-    let r = alphabet::seed_alphabet(
+    let more = alphabet::seed_alphabet(
         room,
-        base,
-        cap,
+        ring,
         pieces,
         ends,
-        count,
-        used,
-        alphabet,
-        alphabet_ends,
-    );
-    match r {
-        Seeded::NoRoom => Encoded::NoRoom,
-        Seeded::Done(c, u) => {
-            let set = pushing::empty(0, layout::words_at(units));
-            encoding::seed_words(
-                room,
-                set,
-                base,
-                cap,
-                pieces,
-                ends,
-                c,
-                u,
-                words,
-                word_ends,
-                frequencies,
-                seeding,
-                prefix,
-                suffix,
-            )
-        }
-    }
+        filled,
+        t.alphabet,
+        t.alphabet_ends,
+    )?;
+    let set = pushing::empty(0, layout::words_at(units));
+    encoding::seed_words(room, set, ring, pieces, ends, more, t)
 }
 
 // The seed pieces in the piece room and their ends, and the words expressed in them.
@@ -153,47 +121,17 @@ pub fn seed(
     room: &mut [u8],
     pieces: &mut [u8],
     ends: &mut [u8],
-    words: &[u8],
-    word_ends: &[u8],
-    frequencies: &[u8],
-    alphabet: &[u8],
-    alphabet_ends: &[u8],
-    prefix: &[u8],
-    suffix: &[u8],
-    seeding: u64,
+    t: Table,
     units: usize,
-) -> Encoded
-    requires { CanSeed (table words.now word_ends.now frequencies.now alphabet.now alphabet_ends.now prefix.now suffix.now seeding) units room.old }
-    ensures { SeedDone result (table words.now word_ends.now frequencies.now alphabet.now alphabet_ends.now
-        prefix.now suffix.now seeding) units
-        pieces.old ends.old (cells room.new) pieces.new ends.new }
+) -> Result<Encoded, NoRoom>
+    requires { CanSeed (lent t) units room.old }
+    ensures { SeedDone result (lent t.entry) units pieces.old ends.old (cells room.new) pieces.new ends.new }
 {
     let base = layout::table_at(units);
-    let first = count_first(room, words, word_ends, seeding, units);
-    let cap = layout::spellings_for(first, alphabet_ends.len() / 4);
+    let first = count_first(room, t.words, t.word_ends, t.seeding, units);
+    let cap = layout::spellings_for(first, t.alphabet_ends.len() / 4);
     cells::clear_cells(room, base, cap);
-    let r = seed_first(
-        room, base, cap, pieces, ends, first, words, word_ends, seeding, units,
-    );
-    match r {
-        Seeded::NoRoom => Encoded::NoRoom,
-        Seeded::Done(count, used) => seed_rest(
-            room,
-            base,
-            cap,
-            pieces,
-            ends,
-            count,
-            used,
-            words,
-            word_ends,
-            frequencies,
-            alphabet,
-            alphabet_ends,
-            prefix,
-            suffix,
-            seeding,
-            units,
-        ),
-    }
+    let ring = Ring { base, cap };
+    let filled = seed_first(room, ring, pieces, ends, first, t, units)?;
+    seed_rest(room, ring, pieces, ends, filled, t, units)
 }

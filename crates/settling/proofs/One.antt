@@ -80,9 +80,6 @@ settled_some s n = rw (ne_eqb s.count 0 n)
 -- ONE PAIR
 
 module _ (p : Pairs) (q m j : ℕ) (cs : List ℕ) (can : CanSettleOne p q m j cs) (r : ℕ) (er : r ≡ nth cs (behind p + j)) where
-  pub one_live : 0 < key_in p cs r
-  one_live = rw er can.has.pos
-
   module _ (k : ℕ) (ek : k ≡ key_in p cs r) where
     key_is : k ≡ key_in p cs (nth cs (behind p + j))
     key_is = rw er at ek

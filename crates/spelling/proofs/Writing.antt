@@ -7,7 +7,7 @@ use native.Mathlib.Omega.{arith}
 use lib.ListN.{length, take, drop, length-append}
 use lib.Seq.{take_all}
 use Rattle.runs.specs.Parts.{part, laid}
-use Rattle.runs.proofs.Parts.{length-part, part_all, part-part, part_lent_on, length-laid, laid-laid}
+use Rattle.runs.proofs.Parts.{length-part, part-part, part_lent_on, length-laid, laid-laid}
 use Rattle.runs.proofs.Frames.{kept-laid, kept-part}
 use Rattle.rule.specs.Spelling.{strip_prefix, joined}
 use Rattle.spelling.specs.Lengths.{joined_length}
@@ -30,17 +30,14 @@ laid_three xs at a b d h =
 
 module _ (xs ys zs vs a b d : List ℕ) (at : ℕ) where
   pub decorate-written : at + (length a + (length b + length d)) ≤ length xs
-      → ys ≡ laid xs at (part 0 (length a) a)
-      → zs ≡ laid ys (at + length a) (part 0 (length b) b)
-      → vs ≡ laid zs (at + length a + length b) (part 0 (length d) d)
+      → ys ≡ laid xs at a
+      → zs ≡ laid ys (at + length a) b
+      → vs ≡ laid zs (at + length a + length b) d
       → Written xs vs at (a ++ (b ++ d)) (length a + (length b + length d)) (at + length a + length b + length d)
   decorate-written h e f g = record { is = is; long = simp length-append; behind = omega arith }
     where
-      all : (s : List ℕ) → part 0 (length s) s ≡ s
-      all s = part_all (length s) s (omega arith)
-
       is : vs ≡ laid xs at (a ++ (b ++ d))
-      is = g ∙ rw (f, e, all a, all b, all d) (laid_three xs at a b d h)
+      is = g ∙ rw (f, e) (laid_three xs at a b d h)
 
 -- TWO SPELLINGS JOINED, both below the place where they are written
 

@@ -10,54 +10,43 @@ ghost use Rattle.rule.specs.Spelling.{leads, strip_prefix, joined};
 ghost use Rattle.spelling.specs.Lengths.{joined_length};
 ghost use Rattle.spelling.specs.Writing.{Written};
 
-// Tells whether a piece begins with a prefix.
-fn has_prefix(piece: &[u8], prefix: &[u8]) -> bool
-    ensures { result ≡ leads prefix.now piece.now }
-{
-    if piece.len() < prefix.len() {
-        return false;
-    }
-    let mut i = 0;
-    while i < prefix.len() {
-        if prefix[i] != piece[i] {
-            return false;
-        }
-        i += 1;
-    }
-    true
-}
+use spells::Spelling;
+use vocab::Place;
 
 // The piece without its prefix, if it carries one: a part of the piece, and no part of the prefix.
 fn strip_prefix<'a, 'b>(piece: &'a [u8], prefix: &'b [u8]) -> &'a [u8]
     ensures { result.now ≡ strip_prefix prefix.now piece.now }
 {
-    if has_prefix(piece, prefix) {
-        let n = prefix.len();
-        &piece[n..]
-    } else {
-        piece
-    }
+    piece.strip_prefix(prefix).unwrap_or(piece)
 }
 
 // How many bytes of a piece are left without its prefix.
+#[tactic(auto, using(crate::proofs::Prefixes::stripped_length, crate::proofs::Prefixes::stripped_short))]
 fn stripped_length(piece: &[u8], prefix: &[u8]) -> usize
     ensures { (result ≡ length (strip_prefix prefix.now piece.now)) × (result ≤ length piece.now) }
 {
-    let rest = strip_prefix(piece, prefix);
-    rest.len()
+    strip_prefix(piece, prefix).len()
 }
 
 // Writes a unit with its decoration, and gives the place behind it.
-pub fn decorate(run: &mut [u8], at: usize, prefix: &[u8], unit: &[u8], suffix: &[u8]) -> usize
-    requires { at + (length prefix.now + (length unit.now + length suffix.now)) ≤ length run.old }
-    ensures { Written run.old run.new at (prefix.now ++ (unit.now ++ suffix.now))
-        (length prefix.now + (length unit.now + length suffix.now)) result }
+pub fn decorate(run: &mut [u8], at: usize, spelling: Spelling) -> usize
+    requires { at + (length spelling.prefix.now + (length spelling.unit.now + length spelling.suffix.now))
+        ≤ length run.old }
+    ensures { Written run.old run.new at
+        (spelling.entry.prefix.now ++ (spelling.entry.unit.now ++ spelling.entry.suffix.now))
+        (length spelling.entry.prefix.now + (length spelling.entry.unit.now + length spelling.entry.suffix.now))
+        result }
 {
-    runs::copy(run, at, prefix, 0, prefix.len());
+    let Spelling {
+        prefix,
+        unit,
+        suffix,
+    } = spelling;
+    runs::copy(run, at, prefix);
     let middle = at + prefix.len();
-    runs::copy(run, middle, unit, 0, unit.len());
+    runs::copy(run, middle, unit);
     let ending = middle + unit.len();
-    runs::copy(run, ending, suffix, 0, suffix.len());
+    runs::copy(run, ending, suffix);
     ending + suffix.len()
 }
 
@@ -71,24 +60,16 @@ pub fn joined_length(left: usize, right: &[u8], prefix: &[u8]) -> usize
 
 // Joins two spellings that stand in the run below `at`: the left one, then the right one without
 // its prefix. Gives the place behind them. The prefix is not copied, so that the run may be full.
-pub fn join(
-    run: &mut [u8],
-    at: usize,
-    left_at: usize,
-    left_n: usize,
-    right_at: usize,
-    right_n: usize,
-    prefix: &[u8],
-) -> usize
-    requires { (left_at + left_n ≤ at) × (right_at + right_n ≤ at)
-        × (at + joined_length left_n prefix.now (part right_at right_n run.old) ≤ length run.old) }
+pub fn join(run: &mut [u8], at: usize, left: Place, right: Place, prefix: &[u8]) -> usize
+    requires { (left.start + left.length ≤ at) × (right.start + right.length ≤ at)
+        × (at + joined_length left.length prefix.now (part right.start right.length run.old) ≤ length run.old) }
     ensures { Written run.old run.new at
-        (joined prefix.now (part left_at left_n run.old) (part right_at right_n run.old))
-        (joined_length left_n prefix.now (part right_at right_n run.old)) result }
+        (joined prefix.now (part left.start left.length run.old) (part right.start right.length run.old))
+        (joined_length left.length prefix.now (part right.start right.length run.old)) result }
 {
-    let rest = stripped_length(&run[right_at..right_at + right_n], prefix);
-    runs::copy_within(run, at, left_at, left_n);
-    let middle = at + left_n;
-    runs::copy_within(run, middle, right_at + (right_n - rest), rest);
+    let rest = stripped_length(&run[right.start..right.start + right.length], prefix);
+    runs::copy_within(run, at, left.start, left.length);
+    let middle = at + left.length;
+    runs::copy_within(run, middle, right.start + (right.length - rest), rest);
     middle + rest
 }

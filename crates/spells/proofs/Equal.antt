@@ -1,42 +1,35 @@
--- Two lists end to end are compared one by one. Assumes nothing.
-use mathlib.Core.Path.{◌≡◌, refl, sym, ◌∙◌}
-use mathlib.Core.Bool.{Bool, true, false, not, ◌&&◌}
+-- Two lists end to end are a third where the first begins it and the second is what is left of it. Assumes nothing.
+use mathlib.Core.Path.{◌≡◌, refl, sym, ap, ◌∙◌}
+use mathlib.Core.Bool.{Bool, true, false}
 use mathlib.Core.List.{List, [], ◌∷◌, ◌++◌}
-use Prim.Native.Nat.{ℕ, ◌-◌, ◌<◌, ◌≤◌}
-use native.Mathlib.Omega.{arith}
-use lib.Dec.{eqb}
-use lib.ListN.{length, take, drop, length-append, length-drop}
-use lib.Seq.{take_all}
-use borrow.Author.Tests.{not-true, not-false}
+use Prim.Native.Nat.{ℕ}
+use lib.ListN.{length, take, drop}
+use lib.Pointwise.{pointwise}
+use borrow.Author.Tests.{eq-eqb}
+use Rattle.std.proofs.Math.Seq.{take-append_seam}
+use Rattle.std.proofs.lemmas.List.{take-append-drop}
+use Rattle.std.specs.Prelude.{nat_eq}
+use Rattle.std.specs.Cmp.Lexicographic.{same_text, other_text}
 use Rattle.order.specs.Order.{same}
-use Rattle.order.proofs.Comparing.{equal_lengths}
+use Rattle.order.proofs.Ordered.{same_true}
 
-pub same-cut : (a b p : List ℕ) → length a ≤ length p → same (a ++ b) p ≡ (same a (take (length a) p) && same b (drop (length a) p))
+pub same_front : (a b x : List ℕ) → same (a ++ b) (a ++ x) ≡ same b x
 unfolding same
-same-cut [] b p h = refl
-same-cut (x ∷ a) b [] h = absurd (omega arith)
-same-cut (x ∷ a) b (y ∷ p) h = go (eqb x y) (same-cut a b p (omega arith))
-  where
-    go : (c : Bool) → same (a ++ b) p ≡ (same a (take (length a) p) && same b (drop (length a) p))
-        → (c && same (a ++ b) p) ≡ ((c && same a (take (length a) p)) && same b (drop (length a) p))
-    go true e = e
-    go false e = refl
+same_front [] b x = refl
+same_front (c ∷ a) b x = rw (eq-eqb c c refl) (same_front a b x)
 
 module _ (a b p : List ℕ) where
-  -- a piece that is too short
-  pub cut-short : length p < length a → false ≡ same (a ++ b) p
-  cut-short h = equal_lengths (a ++ b) p (λ e. omega (arith, length-append a b, e))
+  -- the first does begin the third, and x is left of it
+  pub front_found : pointwise nat_eq (take (length a) p) a ≡ true → (x : List ℕ) → x ≡ drop (length a) p → (r : Bool) → r ≡ same b x → r ≡ same (a ++ b) p
+  front_found h x e r f =
+      let t : take (length a) p ≡ a = same_text (take (length a) p) a (sym h) in
+      let q : a ++ x ≡ p = rw e (ap (λ (l : List ℕ). l ++ drop (length a) p) (sym t) ∙ take-append-drop (length a) p) in
+      f ∙ sym (ap (λ (l : List ℕ). same (a ++ b) l) (sym q) ∙ same_front a b x)
 
-  -- the parts as `&p[0..n]` and `&p[n..]` are lent
-  module _ (f : Bool) (h : length a ≤ length p) (e : f ≡ same a (take (length a - 0) (drop 0 p))) where
-    head : f ≡ same a (take (length a) p)
-    head = let z : length a - 0 ≡ length a = omega arith in e ∙ rw z
-
-    pub cut_no : not f ≡ true → false ≡ same (a ++ b) p
-    cut_no n = sym (same-cut a b p h ∙ rw (← head, not-true f n))
-
-    pub cut_yes : not f ≡ false → (g : Bool) → g ≡ same b (take (length p - length a) (drop (length a) p)) → g ≡ same (a ++ b) p
-    cut_yes n g k =
-        let t : take (length p - length a) (drop (length a) p) ≡ drop (length a) p =
-        take_all (length p - length a) (drop (length a) p) (simp length-drop (omega arith)) in
-        sym (same-cut a b p h ∙ rw (← head, not-false f n, ← t, ← k))
+  -- it does not
+  pub front_missing : pointwise nat_eq (take (length a) p) a ≡ false → false ≡ same (a ++ b) p
+  front_missing h = go (same (a ++ b) p) refl
+    where
+      go : (t : Bool) → same (a ++ b) p ≡ t → false ≡ same (a ++ b) p
+      go true e = absurd (other_text (take (length a) p) a (sym h) (ap (take (length a)) (sym (same_true (a ++ b) p e)) ∙ take-append_seam a b))
+      go false e = sym e

@@ -6,67 +6,47 @@
 #![tactic(auto)]
 
 ghost use Rattle.std.specs.Prelude.{◌≡◌};
-ghost use Rattle.step.specs.Step.{keeps, step_by};
+ghost use Rattle.step.specs.Step.{step_by};
+
+// A merge as a rule for words: the pair (a,b) is rewritten to x.
+#[derive(Clone, Copy)]
+pub struct Rule {
+    pub a: u32,
+    pub b: u32,
+    pub x: u32,
+}
 
 // What a step does: it writes `symbol` and has read `took` symbols, 1 or 2. Its reports, in this
-// order: where `behind`, (previous,a) -1 and (previous,x) +1; where `ahead`, (b,next) -1 and
-// (x,next) +1.
+// order: (previous,a) -1 and (previous,x) +1, where `behind` has the previous symbol; (b,next) -1
+// and (x,next) +1, where `ahead` has the next one.
 #[derive(Clone, Copy)]
 pub struct Step {
     pub symbol: u32,
+    // Stays: `took` as a number: each loop adds it to its place and takes it from what is left.
     pub took: usize,
-    pub behind: bool,
-    pub previous: u32,
-    pub ahead: bool,
-    pub next: u32,
+    pub behind: Option<u32>,
+    pub ahead: Option<u32>,
 }
 
-// A step that keeps the symbol s.
-fn keep(s: u32) -> Step
-    ensures { result ≡ keeps s }
+// The step where s, t and u are the next symbols to be read, as far as there are any. `previous` is
+// the symbol that stands before in the rewritten word, if any, not in the old one: that symbol may
+// be gone by now.
+#[tactic(auto, unfolding(crate::specs::Step::step_by, crate::specs::Step::starts_pair))]
+pub fn decide(rule: Rule, previous: Option<u32>, s: u32, t: Option<u32>, u: Option<u32>) -> Step
+    ensures { result ≡ step_by rule.a rule.b rule.x previous s t u }
 {
+    if s == rule.a && t == Some(rule.b) {
+        return Step {
+            symbol: rule.x,
+            took: 2,
+            behind: previous,
+            ahead: u,
+        };
+    }
     Step {
         symbol: s,
         took: 1,
-        behind: false,
-        previous: 0,
-        ahead: false,
-        next: 0,
-    }
-}
-
-// The step where `left` symbols are still to be read, of which s, t and u are the first three, 0
-// for one that is missing. Where `has`, `previous` is the symbol that stands before in the
-// rewritten word, not in the old one: that symbol may be gone by now.
-pub fn decide(
-    a: u32,
-    b: u32,
-    x: u32,
-    has: bool,
-    previous: u32,
-    left: usize,
-    s: u32,
-    t: u32,
-    u: u32,
-) -> Step
-    ensures { result ≡ step_by a b x has previous left s t u }
-{
-    if left < 2 {
-        return keep(s);
-    }
-    if s != a {
-        return keep(s);
-    }
-    if t != b {
-        return keep(s);
-    }
-    let ahead = 2 < left;
-    Step {
-        symbol: x,
-        took: 2,
-        behind: has,
-        previous: previous,
-        ahead: ahead,
-        next: u,
+        behind: None,
+        ahead: None,
     }
 }

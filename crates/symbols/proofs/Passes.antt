@@ -1,78 +1,85 @@
 -- The two passes over a word, each by the same step: start, a turn, end. A turn has no branch. Assumes nothing.
 use mathlib.Core.Path.{◌≡◌, refl, sym, ap, ◌∙◌}
-use mathlib.Core.Bool.{Bool, true, false}
-use mathlib.Core.List.{List, [], ◌++◌, flat_map}
+use mathlib.Core.List.{List, [], ◌∷◌, ◌++◌, flat_map}
 use mathlib.Core.Option.{some}
-use Prim.Native.Nat.{ℕ, ◌+◌, ◌-◌, ◌*◌, ◌/◌, ◌≤◌, ◌<◌}
+use Prim.Native.Nat.{ℕ, zero, suc, ◌+◌, ◌*◌, ◌/◌, ◌≤◌, ◌<◌}
 use native.Mathlib.Omega.{arith}
 use lib.ListN.{length, drop, length-append, length-drop, drop_of_length-le}
 use lib.Seq.{drop-drop, get_or-drop}
+use Rattle.std.specs.Prelude.{Option, Some, None, is_some, slice_get}
+use Rattle.std.proofs.lemmas.Option.{slice_get-get_or, slice_get_past}
 use Rattle.runs.specs.Parts.{nth}
-use Rattle.runs.proofs.Parts.{nth_past, nth_ext}
+use Rattle.runs.proofs.Parts.{nth_ext}
 use Rattle.numbers.specs.Little.{little, spell, load, store, numbers}
 use Rattle.numbers.proofs.Little.{length-spell, length-numbers, nth-numbers}
 use Rattle.rule.specs.Shapes.{spell_all}
-use Rattle.rule.specs.Rewriting.{bit, cut, out, reports_from, rewrite, reports}
+use Rattle.rule.specs.Rewriting.{bit, before, after, cut, out, reports_from, rewrite, reports}
 use Rattle.rule.specs.Outcome.{report_bytes}
 use Rattle.rule.proofs.Rewriting.{length-rewrite}
 use Rattle.rule.proofs.Lengths.{length-spell_all, length-reports}
-use Rattle.step.specs.Step.{step_by, reports_of, StepAt}
+use Rattle.step.specs.Step.{step_by, standing, following, reports_of, StepAt}
 use Rattle.step.specs.declared.Step.{Step}
 use Rattle.step.proofs.Steps.{decided}
-use Rattle.symbols.specs.Writing.{Writes, side, Wrote}
+use Rattle.symbols.specs.Writing.{Writes, Wrote}
 use Rattle.symbols.specs.Merging.{Counting, Going, Rewrote}
 use Rattle.symbols.proofs.Writing.{writes_start, writes_long, writes_room, writes_turn, writes_ahead, writes_end, reports-append, length_sides}
 
 -- A SYMBOL, AND THE STEP AT A PLACE
+
+get-drop : (i j : ℕ) (l : List ℕ) → slice_get (drop i l) j ≡ slice_get l (i + j)
+get-drop zero j l = let z : 0 + j ≡ j = omega arith in rw z refl
+get-drop (suc i) j [] = refl
+get-drop (suc i) j (s ∷ l) = let z : suc i + j ≡ suc (i + j) = omega arith in rw z (get-drop i j l)
 
 nth-drop : (i j : ℕ) (l : List ℕ) → nth (drop i l) j ≡ nth l (i + j)
 unfolding nth
 nth-drop i j l = get_or-drop i l j 0
 
 module _ (s : List ℕ) (i : ℕ) where
-  pub symbol_at : (v : ℕ) → v ≡ load 4 s (i * 4) → i < length s / 4 → v ≡ nth (numbers 4 s) i
-  symbol_at v e h = e ∙ sym (nth-numbers 4 s i h)
+  pub symbol_at : (v : ℕ) → v ≡ load 4 s (i * 4) → i < length s / 4 → Some v ≡ slice_get (numbers 4 s) i
+  unfolding nth
+  symbol_at v e h =
+      rw (slice_get-get_or (numbers 4 s) i 0 (omega (arith, length-numbers 4 s)))
+      (ap Some (e ∙ sym (nth-numbers 4 s i h)))
 
-  pub symbol_past : length s / 4 ≤ i → 0 ≡ nth (numbers 4 s) i
-  symbol_past h = sym (nth_past (numbers 4 s) i (omega (arith, length-numbers 4 s)))
+  pub symbol_past : length s / 4 ≤ i → None ≡ slice_get (numbers 4 s) i
+  symbol_past h = sym (slice_get_past (numbers 4 s) i (omega (arith, length-numbers 4 s)))
 
-  pub looked : (a b x : ℕ) (has : Bool) (previous p q r : ℕ) (st : Step) → i < length s / 4
-      → p ≡ nth (numbers 4 s) i → q ≡ nth (numbers 4 s) (i + 1) → r ≡ nth (numbers 4 s) (i + 2)
-      → st ≡ step_by a b x has previous (length s / 4 - i) p q r
-      → StepAt a b x has previous (drop i (numbers 4 s)) st
-  looked a b x has previous p q r st h ep eq er e =
+  pub looked : (a b x : ℕ) (previous : Option ℕ) (p : ℕ) (q r : Option ℕ) (st : Step) → i < length s / 4
+      → p ≡ load 4 s (i * 4) → q ≡ slice_get (numbers 4 s) (i + 1) → r ≡ slice_get (numbers 4 s) (i + 2)
+      → st ≡ step_by a b x previous p q r
+      → StepAt a b x previous (drop i (numbers 4 s)) st
+  looked a b x previous p q r st h ep eq er e =
       let z : i + 0 ≡ i = omega arith in
-      decided a b x has previous (drop i (numbers 4 s)) (length s / 4 - i) p q r st (omega arith)
-      (omega (arith, length-drop i (numbers 4 s), length-numbers 4 s))
-      (ep ∙ sym (rw z at (nth-drop i 0 (numbers 4 s))))
-      (eq ∙ sym (nth-drop i 1 (numbers 4 s)))
-      (er ∙ sym (nth-drop i 2 (numbers 4 s)))
+      decided a b x previous (drop i (numbers 4 s)) p q r st (omega (arith, length-drop i (numbers 4 s), length-numbers 4 s))
+      (ep ∙ sym (rw z at (nth-drop i 0 (numbers 4 s)) ∙ nth-numbers 4 s i h))
+      (eq ∙ sym (get-drop i 1 (numbers 4 s)))
+      (er ∙ sym (get-drop i 2 (numbers 4 s)))
       e
 
 -- THE FIRST PASS
 
-pub two_on : (on : Bool) → on ≡ true → 2 ≡ 2 * bit on
-two_on on e = rw e
-
-pub two_off : (on : Bool) → on ≡ false → 0 ≡ 2 * bit on
-two_off on e = rw e
-
-tells_length : (a b x : ℕ) (st : Step) → length (reports_of a b x st) ≡ 2 * bit st.behind + 2 * bit st.ahead
-tells_length a b x st = length_sides a b x st ∙ rw (one st.behind st.previous a st.previous x, one st.ahead b st.next x st.next)
+tells_length : (a b x : ℕ) (st : Step) → length (reports_of a b x st) ≡ 2 * bit (is_some st.behind) + 2 * bit (is_some st.ahead)
+unfolding before after
+tells_length a b x st = length_sides a b x st ∙ rw (behind st.behind, ahead st.ahead)
   where
-    one : (c : Bool) (l r p q : ℕ) → length (side c l r p q) ≡ 2 * bit c
-    one true l r p q = refl
-    one false l r p q = refl
+    behind : (p : Option ℕ) → length (before a x (standing p)) ≡ 2 * bit (is_some p)
+    behind None = refl
+    behind (Some v) = refl
+
+    ahead : (n : Option ℕ) → length (after b x (following n)) ≡ 2 * bit (is_some n)
+    ahead None = refl
+    ahead (Some v) = refl
 
 module _ (a b x : ℕ) (s : List ℕ) where
-  pub count_start : Counting a b x (numbers 4 s) 0 0 false 0
+  pub count_start : Counting a b x (numbers 4 s) 0 0 None
   unfolding reports
   count_start = record { counted = omega arith; within = omega arith; few = omega arith }
 
-  module _ (i count : ℕ) (has : Bool) (previous : ℕ) (σ : Counting a b x (numbers 4 s) i count has previous) where
-    pub count-turn : i < length s / 4 → (st : Step) → StepAt a b x has previous (drop i (numbers 4 s)) st
-        → (m n : ℕ) → m ≡ 2 * bit st.behind → n ≡ 2 * bit st.ahead
-        → Counting a b x (numbers 4 s) (i + st.took) (count + (m + n)) true st.symbol
+  module _ (i count : ℕ) (previous : Option ℕ) (σ : Counting a b x (numbers 4 s) i count previous) where
+    pub count-turn : i < length s / 4 → (st : Step) → StepAt a b x previous (drop i (numbers 4 s)) st
+        → (m n : ℕ) → m ≡ 2 * bit (is_some st.behind) → n ≡ 2 * bit (is_some st.ahead)
+        → Counting a b x (numbers 4 s) (i + st.took) (count + (m + n)) (Some st.symbol)
     count-turn h st A m n em en =
         let t = tells_length a b x st in
         let d = drop-drop st.took i (numbers 4 s) in
@@ -92,7 +99,7 @@ module _ (a b x : ℕ) (s : List ℕ) where
 -- THE SECOND PASS
 
 module _ (a b x : ℕ) (s c : List ℕ) where
-  pub going_start : 16 * length (reports a b x (numbers 4 s)) ≤ length c → Going a b x s c s c 0 0 0 false 0
+  pub going_start : 16 * length (reports a b x (numbers 4 s)) ≤ length c → Going a b x s c s c 0 0 0 None
   unfolding rewrite reports
   going_start h = record {
     word = writes_start (spell_all 4 (rewrite a b x (numbers 4 s))) s
@@ -104,7 +111,7 @@ module _ (a b x : ℕ) (s c : List ℕ) where
     long_told = refl;
   }
 
-  module _ (s' c' : List ℕ) (i k at : ℕ) (has : Bool) (previous : ℕ) (σ : Going a b x s c s' c' i k at has previous) where
+  module _ (s' c' : List ℕ) (i k at : ℕ) (previous : Option ℕ) (σ : Going a b x s c s' c' i k at previous) where
     -- what is still to be read is as it was
     ahead : drop i (numbers 4 s') ≡ drop i (numbers 4 s)
     unfolding load
@@ -122,8 +129,8 @@ module _ (a b x : ℕ) (s c : List ℕ) where
             ∙ sym (nth-numbers 4 s (i + j) m)
             ∙ sym (nth-drop i j (numbers 4 s))
 
-    module _ (st : Step) (A' : StepAt a b x has previous (drop i (numbers 4 s')) st) where
-      A : StepAt a b x has previous (drop i (numbers 4 s)) st
+    module _ (st : Step) (A' : StepAt a b x previous (drop i (numbers 4 s')) st) where
+      A : StepAt a b x previous (drop i (numbers 4 s)) st
       A = rw ahead at A'
 
       within : i + st.took ≤ length s / 4
@@ -145,7 +152,7 @@ module _ (a b x : ℕ) (s c : List ℕ) where
       going_store = let r = writes_room _ s s' (k * 4) (spell 4 st.symbol) _ next_word in omega (arith, σ.word.fits, σ.long_word, length-spell 4 st.symbol)
 
       pub going_turn : (s'' c'' : List ℕ) (at' : ℕ) → Wrote (reports_of a b x st) at c' c'' at' → s'' ≡ store 4 s' (k * 4) st.symbol
-          → Going a b x s c s'' c'' (i + st.took) (k + 1) at' true st.symbol
+          → Going a b x s c s'' c'' (i + st.took) (k + 1) at' (Some st.symbol)
       unfolding store
       going_turn s'' c'' at' w e =
           let z : k * 4 + length (spell 4 st.symbol) ≡ (k + 1) * 4 = omega (arith, length-spell 4 st.symbol) in

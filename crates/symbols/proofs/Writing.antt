@@ -1,6 +1,5 @@
 -- The laws of a list that is written over the front of a run, and of reports written at a place. Assumes nothing.
 use mathlib.Core.Path.{◌≡◌, refl, sym, ap, ◌∙◌}
-use mathlib.Core.Bool.{Bool, true, false}
 use mathlib.Core.List.{List, [], ◌∷◌, ◌++◌, append_assoc, append-nil, flat_map}
 use mathlib.Core.Logic.{inr}
 use Prim.Native.Nat.{ℕ, ◌+◌, ◌*◌, ◌≤◌}
@@ -17,7 +16,7 @@ use Rattle.rule.specs.Outcome.{report_bytes}
 use Rattle.rule.proofs.Lengths.{length-reports}
 use Rattle.step.specs.Step.{standing, following, reports_of}
 use Rattle.step.specs.declared.Step.{Step}
-use Rattle.symbols.specs.Writing.{Writes, side, Wrote}
+use Rattle.symbols.specs.Writing.{Writes, Wrote}
 
 -- A LIST WRITTEN FROM THE FRONT
 
@@ -114,52 +113,34 @@ wrote_one q was is-now at h e =
       long = ap length e ∙ length-laid was at (report_bytes q) (omega (arith, ap length z, length-reports (q ∷ [])));
     }
 
--- one side of a step's reports
-pub side_room : (on : Bool) (l r p q at n : ℕ) → at + 16 * length (side on l r p q) ≤ n → on ≡ true → at + 32 ≤ n
-side_room on l r p q at n h e = rw e at h
+-- two reports, or none
+pub wrote_two : (l r p q at : ℕ) (was mid is-now : List ℕ) → at + 32 ≤ length was → mid ≡ laid was at (spell 4 l ++ spell 4 r ++ spell 8 18446744073709551615)
+    → is-now ≡ laid mid (at + 16) (spell 4 p ++ spell 4 q ++ spell 8 1) → Wrote (less l r ∷ more p q ∷ []) at was is-now (at + 32)
+unfolding report_bytes
+wrote_two l r p q at was mid is-now h f g =
+    let one = wrote_one (less l r) was mid at (omega arith) f in
+    let two = wrote_one (more p q) mid is-now (at + 16) (omega (arith, one.long)) g in
+    let z : at + 16 + 16 ≡ at + 32 = omega arith in
+    rw z at (wrote_then (less l r ∷ []) (more p q ∷ []) was mid is-now at (at + 16) (at + 16 + 16) h one two)
 
-module _ (on : Bool) (l r p q at : ℕ) (was : List ℕ) (h : at + 16 * length (side on l r p q) ≤ length was) where
-  pub side_on : on ≡ true → (mid is-now : List ℕ) → mid ≡ laid was at (spell 4 l ++ spell 4 r ++ spell 8 18446744073709551615)
-      → is-now ≡ laid mid (at + 16) (spell 4 p ++ spell 4 q ++ spell 8 1) → Wrote (side on l r p q) at was is-now (at + 32)
-  unfolding report_bytes
-  side_on e mid is-now f g =
-      let k = side_room on l r p q at (length was) h e in
-      let one = wrote_one (less l r) was mid at (omega arith) f in
-      let two = wrote_one (more p q) mid is-now (at + 16) (omega (arith, one.long)) g in
-      let z : at + 16 + 16 ≡ at + 32 = omega arith in
-      rw e (rw z at (wrote_then (less l r ∷ []) (more p q ∷ []) was mid is-now at (at + 16) (at + 16 + 16) k one two))
-
-  pub side_off : on ≡ false → Wrote (side on l r p q) at was was at
-  unfolding flat_map
-  side_off e = rw e record { is = sym (laid_none was at); after = omega arith; long = refl }
+pub wrote_none : (at : ℕ) (was : List ℕ) → Wrote [] at was was at
+unfolding flat_map
+wrote_none at was = record { is = sym (laid_none was at); after = omega arith; long = refl }
 
 -- both sides are what the step tells
-module _ (a b x : ℕ) where
-  side_before : (c : Bool) (v : ℕ) → before a x (standing c v) ≡ side c v a v x
-  unfolding before
-  side_before true v = refl
-  side_before false v = refl
-
-  side_after : (c : Bool) (v : ℕ) → after b x (following c v) ≡ side c b v x v
-  unfolding after
-  side_after true v = refl
-  side_after false v = refl
-
 module _ (a b x : ℕ) (st : Step) where
-  sides : reports_of a b x st ≡ side st.behind st.previous a st.previous x ++ side st.ahead b st.next x st.next
+  pub length_sides : length (reports_of a b x st) ≡ length (before a x (standing st.behind)) + length (after b x (following st.ahead))
   unfolding reports_of
-  sides = rw (side_before a b x st.behind st.previous, side_after a b x st.ahead st.next)
-
-  pub length_sides : length (reports_of a b x st) ≡ length (side st.behind st.previous a st.previous x) + length (side st.ahead b st.next x st.next)
-  length_sides = ap length sides ∙ length-append (side st.behind st.previous a st.previous x) (side st.ahead b st.next x st.next)
+  length_sides = length-append (before a x (standing st.behind)) (after b x (following st.ahead))
 
   module _ (at : ℕ) (was : List ℕ) (h : at + 16 * length (reports_of a b x st) ≤ length was) where
-    pub room_behind : at + 16 * length (side st.behind st.previous a st.previous x) ≤ length was
+    pub room_behind : at + 16 * length (before a x (standing st.behind)) ≤ length was
     room_behind = omega (arith, length_sides)
 
-    module _ (m : ℕ) (mid : List ℕ) (p : Wrote (side st.behind st.previous a st.previous x) at was mid m) where
-      pub room_ahead : m + 16 * length (side st.ahead b st.next x st.next) ≤ length mid
+    module _ (m : ℕ) (mid : List ℕ) (p : Wrote (before a x (standing st.behind)) at was mid m) where
+      pub room_ahead : m + 16 * length (after b x (following st.ahead)) ≤ length mid
       room_ahead = omega (arith, length_sides, p.after, p.long)
 
-      pub both_sides : (n : ℕ) (is-now : List ℕ) → Wrote (side st.ahead b st.next x st.next) m mid is-now n → Wrote (reports_of a b x st) at was is-now n
-      both_sides n is-now q = rw sides (wrote_then _ _ was mid is-now at m n (rw (ap length sides) at h) p q)
+      pub both_sides : (n : ℕ) (is-now : List ℕ) → Wrote (after b x (following st.ahead)) m mid is-now n → Wrote (reports_of a b x st) at was is-now n
+      unfolding reports_of
+      both_sides n is-now q = wrote_then _ _ was mid is-now at m n h p q

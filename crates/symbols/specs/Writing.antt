@@ -1,8 +1,8 @@
 -- A list that is written over the front of a run, part by part; and reports written at a place.
-use Rattle.std.specs.Prelude.{◌≡◌, Bool, cond, ℕ, ◌+◌, ◌*◌, ◌≤◌, length, take, drop}
-use mathlib.Core.List.{List, [], ◌∷◌, flat_map}
+use Rattle.std.specs.Prelude.{◌≡◌, ℕ, ◌+◌, ◌*◌, ◌≤◌, length, take, drop}
+use mathlib.Core.List.{List, flat_map}
 use Rattle.runs.specs.Parts.{laid}
-use Rattle.rule.specs.Rewriting.{Report, less, more}
+use Rattle.rule.specs.Rewriting.{Report}
 use Rattle.rule.specs.Outcome.{report_bytes}
 
 -- the first k of `new` are written over `old`, and `rest` is still to come
@@ -11,10 +11,6 @@ pub record Writes (new old now : List ℕ) (k : ℕ) (rest : List ℕ) : Type 0 
   pub todo : drop k new ≡ rest
   pub inside : k ≤ length new
   pub fits : length new ≤ length old
-
--- the reports on one side of a rewrite: (l,r) -1 and (p,q) +1, or none where no symbol stands there
-abbrev pub side : Bool → ℕ → ℕ → ℕ → ℕ → List Report
-side on l r p q = cond on (less l r ∷ more p q ∷ []) []
 
 -- the reports qs are written at a place, and the next place is behind them
 pub record Wrote (qs : List Report) (at : ℕ) (was is-now : List ℕ) (next : ℕ) : Type 0 where

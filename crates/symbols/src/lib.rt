@@ -5,74 +5,77 @@
 // written. Both passes go by the step of `step`.
 #![tactic(auto)]
 
-ghost use Rattle.std.specs.Prelude.{◌≡◌, ◌++◌, ◌+◌, ◌*◌, ◌≤◌, ◌<◌, ◌/◌, length, drop};
-ghost use Rattle.runs.specs.Parts.{nth, laid};
+ghost use Rattle.std.specs.Prelude.{◌≡◌, ◌++◌, ◌+◌, ◌*◌, ◌≤◌, ◌<◌, ◌/◌, [], ◌∷◌, length, drop, is_some, slice_get};
+ghost use Rattle.runs.specs.Parts.{laid};
 ghost use Rattle.numbers.specs.Little.{spell, numbers};
-ghost use Rattle.rule.specs.Rewriting.{bit, reports};
-ghost use Rattle.step.specs.Step.{reports_of, StepAt};
-ghost use Rattle.symbols.specs.Writing.{side, Wrote};
+ghost use Rattle.rule.specs.Rewriting.{bit, less, more, before, after, reports};
+ghost use Rattle.step.specs.Step.{standing, following, reports_of, StepAt};
+ghost use Rattle.symbols.specs.Writing.{Wrote};
 ghost use Rattle.symbols.specs.Merging.{Rewrote, Merging};
 
 use error::MergeError;
+use step::{Rule, Step};
 
-// What merging answers. Where it is refused, nothing is written.
+// How many occurrences were rewritten, how many symbols are kept, and how many reports are written.
 #[derive(Clone, Copy)]
-pub enum Merge {
-    Done {
-        rewrites: u64,
-        kept: u64,
-        reports: u64,
-    },
-    Refused(MergeError),
+pub struct Merged {
+    pub rewrites: u64,
+    pub kept: u64,
+    pub reports: u64,
 }
 
-// The symbol at i, 0 past the last.
-fn symbol(symbols: &[u8], i: usize) -> u32
-    ensures { result ≡ nth (numbers 4 symbols.now) i }
+// The symbol at i, if there is one.
+#[tactic(auto, using(crate::proofs::Passes::symbol_at, crate::proofs::Passes::symbol_past))]
+fn symbol(symbols: &[u8], i: usize) -> Option<u32>
+    ensures { result ≡ slice_get (numbers 4 symbols.now) i }
 {
-    if symbols.len() / 4 <= i {
-        return 0;
+    if i < symbols.len() / 4 {
+        return Some(numbers::load4(symbols, i * 4));
     }
-    numbers::load4(symbols, i * 4)
+    None
 }
 
-// The step at the front of the symbols from i on.
-fn look(symbols: &[u8], i: usize, a: u32, b: u32, x: u32, has: bool, previous: u32) -> step::Step
+// The step at the front of the symbols from i on. `previous` is the symbol that stands before in the
+// rewritten word, if any.
+// Stays: the twin of merge::look: this reads numbers of 4 bytes, that one halves of cells; the rule is `decide`.
+fn look(symbols: &[u8], i: usize, previous: Option<u32>, rule: Rule) -> Step
     requires { i < length symbols.now / 4 }
-    ensures { StepAt a b x has previous (drop i (numbers 4 symbols.now)) result }
+    ensures { StepAt rule.a rule.b rule.x previous (drop i (numbers 4 symbols.now)) result }
 {
-    let s = symbol(symbols, i);
+    let s = numbers::load4(symbols, i * 4);
     let t = symbol(symbols, i + 1);
     let u = symbol(symbols, i + 2);
-    step::decide(a, b, x, has, previous, symbols.len() / 4 - i, s, t, u)
+    step::decide(rule, previous, s, t, u)
 }
 
-// Two reports, or none.
-fn two(on: bool) -> usize
-    ensures { (result ≡ 2 * bit on) × (result ≤ 2) }
+// Two reports for a neighbour, if there is one.
+fn two(neighbour: Option<u32>) -> usize
+    ensures { (result ≡ 2 * bit (is_some neighbour)) × (result ≤ 2) }
 {
-    if on { 2 } else { 0 }
+    match neighbour {
+        Some(_) => 2,
+        None => 0,
+    }
 }
 
-// How many reports rewriting (a,b) to x makes.
-fn count_reports(symbols: &[u8], a: u32, b: u32, x: u32) -> usize
-    ensures { result ≡ length (reports a b x (numbers 4 symbols.now)) }
+// How many reports rewriting a pair makes.
+fn count_reports(symbols: &[u8], rule: Rule) -> usize
+    ensures { result ≡ length (reports rule.a rule.b rule.x (numbers 4 symbols.now)) }
 {
     let mut i = 0;
     let mut count = 0;
-    let mut has = false;
-    let mut previous = 0;
+    let mut previous = None;
     while i < symbols.len() / 4 {
-        let st = look(symbols, i, a, b, x, has, previous);
+        let st = look(symbols, i, previous, rule);
         count += two(st.behind) + two(st.ahead);
         i += st.took;
-        has = true;
-        previous = st.symbol;
+        previous = Some(st.symbol);
     }
     count
 }
 
 // Writes one report in the 16 bytes at `at`.
+#[tactic(auto, using(crate::proofs::Writing::stored_report))]
 fn write_report(changes: &mut [u8], at: usize, left: u32, right: u32, by: u64)
     requires { at + 16 ≤ length changes.old }
     ensures { changes.new ≡ laid changes.old at (spell 4 left ++ spell 4 right ++ spell 8 by) }
@@ -82,72 +85,97 @@ fn write_report(changes: &mut [u8], at: usize, left: u32, right: u32, by: u64)
     numbers::store8(changes, at + 8, by);
 }
 
-// Writes, where `on`, two reports, that (l,r) has one less and (p,q) one more; the place after them.
-fn write_side(changes: &mut [u8], at: usize, on: bool, l: u32, r: u32, p: u32, q: u32) -> usize
-    requires { at + 16 * length (side on l r p q) ≤ length changes.old }
-    ensures { Wrote (side on l r p q) at changes.old changes.new result }
+// Writes two reports, that (l,r) has one less and (p,q) one more; the place after them.
+#[tactic(auto, using(crate::proofs::Writing::wrote_two))]
+fn write_two(changes: &mut [u8], at: usize, l: u32, r: u32, p: u32, q: u32) -> usize
+    requires { at + 32 ≤ length changes.old }
+    ensures { Wrote (less l r ∷ more p q ∷ []) at changes.old changes.new result }
 {
-    if on {
-        write_report(changes, at, l, r, 0xFFFF_FFFF_FFFF_FFFF);
-        write_report(changes, at + 16, p, q, 1);
-        return at + 32;
+    write_report(changes, at, l, r, u64::MAX);
+    write_report(changes, at + 16, p, q, 1);
+    at + 32
+}
+
+// Writes the reports of a step on the symbol before it, if there is one; the place after them.
+#[tactic(auto, using(crate::proofs::Writing::wrote_none), unfolding(rule::specs::Rewriting::before))]
+fn write_before(changes: &mut [u8], at: usize, rule: Rule, previous: Option<u32>) -> usize
+    requires { at + 16 * length (before rule.a rule.x (standing previous)) ≤ length changes.old }
+    ensures { Wrote (before rule.a rule.x (standing previous)) at changes.old changes.new result }
+{
+    match previous {
+        Some(p) => write_two(changes, at, p, rule.a, p, rule.x),
+        None => at,
     }
-    at
+}
+
+// Writes the reports of a step on the symbol that follows, if there is one; the place after them.
+#[tactic(auto, using(crate::proofs::Writing::wrote_none), unfolding(rule::specs::Rewriting::after))]
+fn write_after(changes: &mut [u8], at: usize, rule: Rule, next: Option<u32>) -> usize
+    requires { at + 16 * length (after rule.b rule.x (following next)) ≤ length changes.old }
+    ensures { Wrote (after rule.b rule.x (following next)) at changes.old changes.new result }
+{
+    match next {
+        Some(n) => write_two(changes, at, rule.b, n, rule.x, n),
+        None => at,
+    }
 }
 
 // Writes the reports of a step; the place after them.
-fn write_reports(changes: &mut [u8], at: usize, a: u32, b: u32, x: u32, st: step::Step) -> usize
-    requires { at + 16 * length (reports_of a b x st) ≤ length changes.old }
-    ensures { Wrote (reports_of a b x st) at changes.old changes.new result }
+fn write_reports(changes: &mut [u8], at: usize, rule: Rule, st: Step) -> usize
+    requires { at + 16 * length (reports_of rule.a rule.b rule.x st) ≤ length changes.old }
+    ensures { Wrote (reports_of rule.a rule.b rule.x st) at changes.old changes.new result }
 {
-    let after = write_side(changes, at, st.behind, st.previous, a, st.previous, x);
-    write_side(changes, after, st.ahead, b, st.next, x, st.next)
+    let middle = write_before(changes, at, rule, st.behind);
+    write_after(changes, middle, rule, st.ahead)
 }
 
-// Rewrites (a,b) to x in place and writes the reports, for which there is room; how many symbols are
+// Rewrites a pair in place and writes the reports, for which there is room; how many symbols are
 // kept. A rewrite only shortens the word, so that what is written never overtakes what is read.
-fn rewrite(symbols: &mut [u8], a: u32, b: u32, x: u32, changes: &mut [u8]) -> usize
-    requires { 16 * length (reports a b x (numbers 4 symbols.old)) ≤ length changes.old }
-    ensures { Rewrote a b x symbols.old changes.old symbols.new changes.new result }
+fn rewrite(symbols: &mut [u8], rule: Rule, changes: &mut [u8]) -> usize
+    requires { 16 * length (reports rule.a rule.b rule.x (numbers 4 symbols.old)) ≤ length changes.old }
+    ensures { Rewrote rule.a rule.b rule.x symbols.old changes.old symbols.new changes.new result }
 {
     let mut i = 0;
     let mut kept = 0;
     let mut at = 0;
-    let mut has = false;
-    let mut last = 0;
+    let mut last = None;
     while i < symbols.len() / 4 {
-        let st = look(symbols, i, a, b, x, has, last);
-        at = write_reports(changes, at, a, b, x, st);
+        let st = look(symbols, i, last, rule);
+        at = write_reports(changes, at, rule, st);
         numbers::store4(symbols, kept * 4, st.symbol);
         i += st.took;
         kept += 1;
-        has = true;
-        last = st.symbol;
+        last = Some(st.symbol);
     }
     kept
 }
 
-// Rewrites (a,b) to x in a word, in place, and reports how the counts of the other pairs change.
-// x may be a, b, or any symbol of the word.
-pub fn merge_symbols(symbols: &mut [u8], a: u32, b: u32, x: u32, changes: &mut [u8]) -> Merge
-    ensures { Merging symbols.old a b x changes.old result symbols.new changes.new }
+// Rewrites a pair in a word, in place, and reports how the counts of the other pairs change. The
+// symbol that the pair becomes may be one of the pair, or any symbol of the word. Where merging is
+// refused, nothing is written.
+pub fn merge_symbols(
+    symbols: &mut [u8],
+    rule: Rule,
+    changes: &mut [u8],
+) -> Result<Merged, MergeError>
+    ensures { Merging symbols.old rule.a rule.b rule.x changes.old result symbols.new changes.new }
 {
     if symbols.len() % 4 != 0 {
-        return Merge::Refused(MergeError::BadShape);
+        return Err(MergeError::BadShape);
     }
     if changes.len() % 16 != 0 {
-        return Merge::Refused(MergeError::BadShape);
+        return Err(MergeError::BadShape);
     }
-    let reports = count_reports(symbols, a, b, x);
+    let reports = count_reports(symbols, rule);
     if changes.len() / 16 < reports {
-        return Merge::Refused(MergeError::ChangeRoom);
+        return Err(MergeError::ChangeRoom);
     }
-    let kept = rewrite(symbols, a, b, x, changes);
+    let kept = rewrite(symbols, rule, changes);
     // each rewrite costs the word one symbol
     let rewrites = symbols.len() / 4 - kept;
-    Merge::Done {
+    Ok(Merged {
         rewrites: rewrites as u64,
         kept: kept as u64,
         reports: reports as u64,
-    }
+    })
 }

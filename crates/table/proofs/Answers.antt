@@ -2,50 +2,45 @@
 use mathlib.Core.Path.{◌≡◌, refl, sym, ap, ◌∙◌}
 use mathlib.Core.Bool.{Bool, true, false, cond}
 use mathlib.Core.List.{List, [], ◌∷◌, ◌++◌}
-use Prim.Native.Nat.{ℕ, suc, ◌/◌, ◌^◌, ◌≤◌, ◌<◌}
+use Prim.Native.Nat.{ℕ, ◌/◌, ◌^◌, ◌≤◌, ◌<◌}
 use native.Mathlib.Omega.{arith}
-use lib.Dec.{eqb, ltb, leb}
-use lib.ListN.{length, length-map}
+use lib.Dec.{leb}
+use lib.ListN.{length}
 use borrow.Author.Tests.{lt-ltb, le-ltb, le-leb, lt-leb, eq-eqb, ne_eqb}
+use Rattle.std.specs.Prelude.{Some, None, Result, Ok, Err}
 use Rattle.runs.proofs.Parts.{below_or_not}
 use Rattle.numbers.specs.Little.{numbers}
-use Rattle.numbers.proofs.Little.{length-numbers}
-use Rattle.rule.specs.Shapes.{parts_by, first}
+use Rattle.rule.specs.Shapes.{first, some?}
 use Rattle.rule.specs.Table.{Task, Rooms, word_count, A, U, word_units, units_of, weighed, room_for, work_needed}
 use Rattle.rule.specs.Refusals as row
 use Rattle.rule.specs.Refusals.{Refusal, Verdict, says, success, judge, verdict, bad_shape, too_many, empty_corpus, no_frequency, zero_frequency, not_above, misplaced, out_of_order, too_heavy, work_room}
-use Rattle.rule.proofs.Places.{some_first}
-use Rattle.rule.proofs.Lengths.{length-parts}
 use Rattle.error.specs.declared.TrainError.{TrainError}
 use Rattle.error.specs.declared.TrainError.TheVariants.{BadShape, TooMany, EmptyCorpus, ZeroFrequency, OutOfOrder, TooHeavy, WorkRoom, SeedRoom, VocabTooSmall, OutputRoom}
 use Rattle.error.specs.Answers.{train_verdict}
 use Rattle.error.proofs.Answers.{train_one_to_one}
-use Rattle.table.specs.declared.Judged.{Judged}
-use Rattle.table.specs.declared.Judged.TheVariants.{Fine, Refused}
 use Rattle.table.specs.Weighing.{unit_count, capped, IsWeighed}
-use Rattle.table.specs.Answers.{words_answer, table_answer, task_answer, first_rows, later_rows, answer_verdict}
+use Rattle.table.specs.Answers.{first_place, words_answer, table_answer, task_answer, first_rows, later_rows, answer_verdict}
 use Rattle.table.proofs.Weighing.{capped_low, capped_high}
 
--- ROWS 4, 5 AND 6 HOLD where what the code finds is below a number
+-- A PLACE that is found is the first, of tests of which one holds
 
-zero_holds : (fs : List ℕ) → zero_frequency fs ≡ ltb (first (no_frequency fs)) (length fs / 8)
-unfolding zero_frequency no_frequency
-zero_holds fs = some_first (no_frequency fs) ∙ ap (ltb (first (no_frequency fs))) (length-map (numbers 8 fs) (eqb 0) ∙ length-numbers 8 fs)
+place_found : (bs : List Bool) (z : ℕ) → Some z ≡ first_place bs → (some? bs ≡ true) × (z ≡ first bs)
+unfolding first_place
+place_found bs z = go (some? bs)
+  where
+    go : (t : Bool) → Some z ≡ cond t (Some (first bs)) None → (t ≡ true) × (z ≡ first bs)
+    go true e = (refl, cc)
+    go false e = cc
 
-length-not_above : (w : List ℕ) (ws : List (List ℕ)) → length (not_above (w ∷ ws)) ≡ length ws
-unfolding not_above
-length-not_above w [] = refl
-length-not_above w (v ∷ ws) = ap suc (length-not_above v ws)
+place_absent : (bs : List Bool) → None ≡ first_place bs → some? bs ≡ false
+unfolding first_place
+place_absent bs = go (some? bs)
+  where
+    go : (t : Bool) → None ≡ cond t (Some (first bs)) None → t ≡ false
+    go true e = cc
+    go false e = refl
 
-not_above_fewer : (ws : List (List ℕ)) → 0 < length ws → suc (length (not_above ws)) ≡ length ws
-not_above_fewer [] h = absurd (omega arith)
-not_above_fewer (w ∷ ws) h = ap suc (length-not_above w ws)
-
-low_holds : (ws es : List ℕ) → 0 < length es / 4 → out_of_order ws es ≡ ltb (first (misplaced ws es)) (length es / 4)
-unfolding out_of_order misplaced parts_by
-low_holds ws es h =
-    let l = length-parts ws 0 (numbers 4 es) ∙ length-numbers 4 es in
-    some_first (misplaced ws es) ∙ ap (ltb (first (misplaced ws es))) (not_above_fewer (parts_by ws es) (omega arith) ∙ l)
+-- ROW 6 HOLDS where the weight that the code finds is not below a number
 
 heavy_holds : (ws es fs : List ℕ) (seeding w : ℕ) → w ≡ capped (weighed (numbers 8 fs) (units_of seeding ws es)) → too_heavy ws es fs seeding ≡ leb (2 ^ 53) w
 unfolding too_heavy
@@ -58,38 +53,34 @@ heavy_holds ws es fs seeding w = go (weighed (numbers 8 fs) (units_of seeding ws
 
 -- THE ANSWER OF ROWS 3 TO 7, by what the code found
 
-pub words_none : (ws es fs : List ℕ) (seeding symbols room : ℕ) → length es / 4 ≡ 0 → Refused EmptyCorpus ≡ words_answer ws es fs seeding symbols room
+pub words_none : (ws es fs : List ℕ) (seeding symbols room : ℕ) → length es / 4 ≡ 0 → Err EmptyCorpus ≡ words_answer ws es fs seeding symbols room
 unfolding words_answer empty_corpus
 words_none ws es fs seeding symbols room h = rw (eq-eqb (length es / 4) 0 h)
 
-module _ (ws es fs : List ℕ) (seeding symbols room : ℕ) (some : length es / 4 ≡ 0 → ⊥) (even : length es / 4 ≡ length fs / 8) (z : ℕ) (ez : z ≡ first (no_frequency fs)) where
+module _ (ws es fs : List ℕ) (seeding symbols room : ℕ) (some : length es / 4 ≡ 0 → ⊥) where
   e₃ : empty_corpus (length es / 4) ≡ false
   unfolding empty_corpus
   e₃ = ne_eqb (length es / 4) 0 some
 
-  test₄ : (t : Bool) → ltb z (length es / 4) ≡ t → zero_frequency fs ≡ t
-  test₄ t h = zero_holds fs ∙ rw (← ez, ← even) h
+  pub words_zero : (z : ℕ) → Some z ≡ first_place (no_frequency fs) → Err (ZeroFrequency z) ≡ words_answer ws es fs seeding symbols room
+  unfolding words_answer zero_frequency
+  words_zero z e = let p = place_found (no_frequency fs) z e in rw (e₃, p.0, p.1)
 
-  pub words_zero : z < length es / 4 → Refused (ZeroFrequency z) ≡ words_answer ws es fs seeding symbols room
-  unfolding words_answer
-  words_zero h = rw (e₃, test₄ true (lt-ltb z (length es / 4) h), ez)
-
-  module _ (nz : length es / 4 ≤ z) (k : ℕ) (ek : k ≡ first (misplaced ws es)) where
+  module _ (nz : None ≡ first_place (no_frequency fs)) where
     e₄ : zero_frequency fs ≡ false
-    e₄ = test₄ false (le-ltb z (length es / 4) nz)
+    unfolding zero_frequency
+    e₄ = place_absent (no_frequency fs) nz
 
-    test₅ : (t : Bool) → ltb k (length es / 4) ≡ t → out_of_order ws es ≡ t
-    test₅ t h = low_holds ws es (omega arith) ∙ rw (← ek) h
+    pub words_low : (k : ℕ) → Some k ≡ first_place (misplaced ws es) → Err (OutOfOrder k) ≡ words_answer ws es fs seeding symbols room
+    unfolding words_answer out_of_order
+    words_low k e = let p = place_found (misplaced ws es) k e in rw (e₃, e₄, p.0, p.1)
 
-    pub words_low : k < length es / 4 → Refused (OutOfOrder k) ≡ words_answer ws es fs seeding symbols room
-    unfolding words_answer
-    words_low h = rw (e₃, e₄, test₅ true (lt-ltb k (length es / 4) h), ek)
-
-    module _ (nk : length es / 4 ≤ k) (w u : ℕ) (m : IsWeighed seeding ws es fs w u) where
+    module _ (nk : None ≡ first_place (misplaced ws es)) (w u : ℕ) (m : IsWeighed seeding ws es fs w u) where
       e₅ : out_of_order ws es ≡ false
-      e₅ = test₅ false (le-ltb k (length es / 4) nk)
+      unfolding out_of_order
+      e₅ = place_absent (misplaced ws es) nk
 
-      pub words_heavy : 2 ^ 53 ≤ w → Refused TooHeavy ≡ words_answer ws es fs seeding symbols room
+      pub words_heavy : 2 ^ 53 ≤ w → Err TooHeavy ≡ words_answer ws es fs seeding symbols room
       unfolding words_answer
       words_heavy h = rw (e₃, e₄, e₅, heavy_holds ws es fs seeding w m.weight_is ∙ le-leb (2 ^ 53) w h)
 
@@ -100,27 +91,27 @@ module _ (ws es fs : List ℕ) (seeding symbols room : ℕ) (some : length es / 
         need_is : room_for (unit_count seeding ws es) symbols ≡ need
         need_is = rw (en, m.units_is)
 
-        pub words_room : room < need → Refused (WorkRoom need) ≡ words_answer ws es fs seeding symbols room
+        pub words_room : room < need → Err (WorkRoom need) ≡ words_answer ws es fs seeding symbols room
         unfolding words_answer work_room
         words_room h = rw (e₃, e₄, e₅, e₆, need_is, lt-ltb room need h)
 
-        pub words_fine : need ≤ room → Fine u ≡ words_answer ws es fs seeding symbols room
+        pub words_fine : need ≤ room → Ok u ≡ words_answer ws es fs seeding symbols room
         unfolding words_answer work_room
         words_fine h = rw (e₃, e₄, e₅, e₆, need_is, le-ltb room need h, m.units_is)
 
 -- THE ANSWER OF ALL SEVEN
 
 module _ (ws es fs al ae pre suf : List ℕ) (seeding size room : ℕ) (b : Bool) (eb : b ≡ bad_shape ws es fs al ae seeding) where
-  pub table_shape : b ≡ true → Refused BadShape ≡ table_answer ws es fs al ae pre suf seeding size room
+  pub table_shape : b ≡ true → Err BadShape ≡ table_answer ws es fs al ae pre suf seeding size room
   unfolding table_answer
   table_shape h = rw (sym eb ∙ h)
 
   module _ (nb : b ≡ false) (d : Bool) (ed : d ≡ too_many (length es / 4) size (length ws) (length ae / 4) (length al) (length pre) (length suf)) where
-    pub table-many : d ≡ true → Refused TooMany ≡ table_answer ws es fs al ae pre suf seeding size room
+    pub table-many : d ≡ true → Err TooMany ≡ table_answer ws es fs al ae pre suf seeding size room
     unfolding table_answer
     table-many h = rw (sym eb ∙ nb, sym ed ∙ h)
 
-    pub table-words : (j : Judged) → d ≡ false → j ≡ words_answer ws es fs seeding (length ae / 4) room → j ≡ table_answer ws es fs al ae pre suf seeding size room
+    pub table-words : (j : Result ℕ TrainError) → d ≡ false → j ≡ words_answer ws es fs seeding (length ae / 4) room → j ≡ table_answer ws es fs al ae pre suf seeding size room
     unfolding table_answer
     table-words j nd e = rw (sym eb ∙ nb, sym ed ∙ nd) e
 
@@ -144,8 +135,8 @@ numbered OutputRoom = omega arith
 in_turn : (l : Verdict) (word place needed units : ℕ) (b₁ b₂ b₃ b₄ b₅ b₆ b₇ : Bool)
     → cond b₁ (says 1 []) (cond b₂ (says 2 []) (cond b₃ (says 3 []) (cond b₄ (says 4 (word ∷ [])) (cond b₅ (says 5 (place ∷ [])) (cond b₆ (says 6 []) (cond b₇ (says 7 (needed ∷ [])) l))))))
     ≡ answer_verdict
-    (cond b₁ (Refused BadShape) (cond b₂ (Refused TooMany) (cond b₃ (Refused EmptyCorpus) (cond b₄ (Refused (ZeroFrequency word)) (cond b₅ (Refused (OutOfOrder place)) (cond b₆ (Refused TooHeavy)
-    (cond b₇ (Refused (WorkRoom needed)) (Fine units)))))))) l
+    (cond b₁ (Err BadShape) (cond b₂ (Err TooMany) (cond b₃ (Err EmptyCorpus) (cond b₄ (Err (ZeroFrequency word)) (cond b₅ (Err (OutOfOrder place)) (cond b₆ (Err TooHeavy)
+    (cond b₇ (Err (WorkRoom needed)) (Ok units)))))))) l
 unfolding answer_verdict train_verdict
 in_turn l w k n u true b₂ b₃ b₄ b₅ b₆ b₇ = refl
 in_turn l w k n u false true b₃ b₄ b₅ b₆ b₇ = refl
@@ -175,23 +166,23 @@ module _ (t : Task) (r : Rooms) where
   unfolding judge
   answer_first = seven_judged []
 
-  pub refused_verdict : (e : TrainError) → task_answer t r ≡ Refused e → verdict t r ≡ train_verdict e
+  pub refused_verdict : (e : TrainError) → task_answer t r ≡ Err e → verdict t r ≡ train_verdict e
   unfolding answer_verdict
-  refused_verdict e h = answer_verdict_lem ∙ ap (λ (j : Judged). answer_verdict j (judge later_rows t r)) h
+  refused_verdict e h = answer_verdict_lem ∙ ap (λ (j : Result ℕ TrainError). answer_verdict j (judge later_rows t r)) h
 
-  pub fine_verdict : (u : ℕ) → task_answer t r ≡ Fine u → verdict t r ≡ judge later_rows t r
+  pub fine_verdict : (u : ℕ) → task_answer t r ≡ Ok u → verdict t r ≡ judge later_rows t r
   unfolding answer_verdict
-  fine_verdict u h = answer_verdict_lem ∙ ap (λ (j : Judged). answer_verdict j (judge later_rows t r)) h
+  fine_verdict u h = answer_verdict_lem ∙ ap (λ (j : Result ℕ TrainError). answer_verdict j (judge later_rows t r)) h
 
-  -- `Refused e` exactly when the verdict of the first seven rows is that of e
-  pub refused_when : (e : TrainError) → task_answer t r ≡ Refused e → judge first_rows t r ≡ train_verdict e
+  -- `Err e` exactly when the verdict of the first seven rows is that of e
+  pub refused_when : (e : TrainError) → task_answer t r ≡ Err e → judge first_rows t r ≡ train_verdict e
   unfolding answer_verdict
-  refused_when e h = answer_first ∙ ap (λ (j : Judged). answer_verdict j (success t)) h
+  refused_when e h = answer_first ∙ ap (λ (j : Result ℕ TrainError). answer_verdict j (success t)) h
 
-  pub refused_only : (e : TrainError) → judge first_rows t r ≡ train_verdict e → task_answer t r ≡ Refused e
+  pub refused_only : (e : TrainError) → judge first_rows t r ≡ train_verdict e → task_answer t r ≡ Err e
   unfolding answer_verdict success
   refused_only e h = go (task_answer t r) (sym answer_first ∙ h)
     where
-      go : (j : Judged) → answer_verdict j (success t) ≡ train_verdict e → j ≡ Refused e
-      go (Fine u) q = absurd (omega (arith, numbered e, ap (λ (v : Verdict). v.number) q))
-      go (Refused f) q = ap Refused (train_one_to_one f e q)
+      go : (j : Result ℕ TrainError) → answer_verdict j (success t) ≡ train_verdict e → j ≡ Err e
+      go (Ok u) q = absurd (omega (arith, numbered e, ap (λ (v : Verdict). v.number) q))
+      go (Err f) q = ap Err (train_one_to_one f e q)

@@ -18,24 +18,23 @@ use Rattle.error.specs.declared.TrainError.{TrainError}
 use Rattle.error.specs.declared.TrainError.TheVariants.{BadShape, TooMany, EmptyCorpus, ZeroFrequency, OutOfOrder, TooHeavy, WorkRoom}
 use Rattle.vocab.specs.Places.{numbers_from}
 use Rattle.vocab.proofs.Shaped.{risen_cons}
-use Rattle.table.specs.declared.Judged.{Judged}
-use Rattle.table.specs.declared.Judged.TheVariants.{Fine, Refused}
+use Rattle.std.specs.Prelude.{Result, Ok, Err}
 use Rattle.table.specs.Weighing.{unit_count}
 use Rattle.table.specs.Answers.{words_answer, table_answer, task_answer}
 use Rattle.table.proofs.Rows.{Sound, sound, Limits, limits}
 use Rattle.table.proofs.Order.{shaped-first}
 
--- SEVEN TESTS IN TURN come to `Fine` exactly when none holds
+-- SEVEN TESTS IN TURN come to `Ok` exactly when none holds
 
-not_refused : (e : TrainError) (u : ℕ) → Refused e ≡ Fine u → ⊥
+not_refused : (e : TrainError) (u : ℕ) → Err e ≡ Ok u → ⊥
 not_refused e u h = let z : ◌≡◌ {A = ℕ} 0 1 = cc in omega arith
 
 -- a row that was passed, and the answer after it
-skip : (b : Bool) (e : TrainError) (y : Judged) (u : ℕ) → cond b (Refused e) y ≡ Fine u → (b ≡ false) × (y ≡ Fine u)
+skip : (b : Bool) (e : TrainError) (y : Result ℕ TrainError) (u : ℕ) → cond b (Err e) y ≡ Ok u → (b ≡ false) × (y ≡ Ok u)
 skip true e y u h = absurd (not_refused e u h)
 skip false e y u h = (refl, h)
 
-same-units : (m u : ℕ) → Fine m ≡ Fine u → u ≡ m
+same-units : (m u : ℕ) → ◌≡◌ {A = Result ℕ TrainError} (Ok m) (Ok u) → u ≡ m
 same-units m u h = cc
 
 -- UNITS ARE NO MORE THAN BYTES
@@ -65,7 +64,7 @@ module _ (t : Task) (r : Rooms) where
     pub work : (row.WorkRoom).holds t r ≡ false
     pub units_are : u ≡ U t
 
-  pub fine_when : (u : ℕ) → task_answer t r ≡ Fine u → Passed u
+  pub fine_when : (u : ℕ) → task_answer t r ≡ Ok u → Passed u
   unfolding task_answer table_answer words_answer word_count A work_needed U word_units unit_count
   fine_when u h =
       let h₁ = skip ((row.BadShape).holds t r) BadShape _ u h in
@@ -86,7 +85,7 @@ module _ (t : Task) (r : Rooms) where
         units_are = same-units (U t) u h₇.1;
       }
 
-  pub fine_only : (u : ℕ) → Passed u → task_answer t r ≡ Fine u
+  pub fine_only : (u : ℕ) → Passed u → task_answer t r ≡ Ok u
   unfolding task_answer table_answer words_answer word_count A work_needed U word_units unit_count
   fine_only u p = rw (p.shape, p.many, p.corpus, p.frequency, p.order, p.weight, p.work, p.units_are)
 

@@ -1,18 +1,20 @@
 -- Rows 1, 2 and 4 as the code asks them: each way out, and what is known when none is taken. Assumes nothing.
 use mathlib.Core.Path.{◌≡◌, refl, sym, ap, ◌∙◌}
-use mathlib.Core.Bool.{Bool, true, false, not, or-true}
+use mathlib.Core.Bool.{Bool, true, false, cond, not, or-true}
 use mathlib.Core.List.{List, [], ◌∷◌, map}
 use Prim.Native.Nat.{ℕ, suc, ◌+◌, ◌/◌, ◌%◌, ◌≤◌, ◌<◌}
 use native.Mathlib.Omega.{arith}
 use lib.Dec.{eqb, ltb}
 use lib.ListN.{length}
 use borrow.Author.Tests.{lt-ltb, le-ltb, eq-eqb, ne_eqb, ltb-false, eqb-true, not-false}
+use Rattle.std.specs.Prelude.{Option, Some, None}
 use Rattle.runs.specs.Parts.{nth}
 use Rattle.numbers.specs.Little.{numbers}
 use Rattle.rule.specs.Shapes.{shaped, first, some?}
 use Rattle.rule.specs.Refusals.{bad_shape, too_many, no_frequency}
 use Rattle.rule.proofs.Places.{none}
 use Rattle.vocab.specs.Places.{numbers_from}
+use Rattle.table.specs.Answers.{first_place}
 use Rattle.vocab.proofs.Places.{numbers_start, numbers_step, numbers_end}
 
 -- ONE OF SOME TESTS, from the front
@@ -29,14 +31,6 @@ module _ (b : Bool) (bs : List Bool) where
   some_rest : b ≡ false → some? (b ∷ bs) ≡ some? bs
   unfolding some?
   some_rest e = rw e
-
-  pub first_here : b ≡ true → first (b ∷ bs) ≡ 0
-  unfolding first
-  first_here e = rw e
-
-  pub first_later : b ≡ false → first (b ∷ bs) ≡ suc (first bs)
-  unfolding first
-  first_later e = rw e
 
 some_single : (b : Bool) → some? (b ∷ []) ≡ b
 unfolding some?
@@ -97,13 +91,13 @@ sound ws es fs al ae seeding b e h =
 -- ROW 2
 
 module _ (words size bytes symbols symbolBytes prefix suffix : ℕ) where
-  pub many-words : 16777216 < words → true ≡ too_many words size bytes symbols symbolBytes prefix suffix
+  pub many_words : 16777216 < words → true ≡ too_many words size bytes symbols symbolBytes prefix suffix
   unfolding too_many
-  many-words h = sym (some_here _ _ (lt-ltb 16777216 words h))
+  many_words h = sym (some_here _ _ (lt-ltb 16777216 words h))
 
-  pub many-pieces : 16777216 < size → true ≡ too_many words size bytes symbols symbolBytes prefix suffix
+  pub many_pieces : 16777216 < size → true ≡ too_many words size bytes symbols symbolBytes prefix suffix
   unfolding too_many
-  many-pieces h = sym (some_later _ _ (some_here _ _ (lt-ltb 16777216 size h)))
+  many_pieces h = sym (some_later _ _ (some_here _ _ (lt-ltb 16777216 size h)))
 
   pub many_bytes : 268435456 < bytes → true ≡ too_many words size bytes symbols symbolBytes prefix suffix
   unfolding too_many
@@ -133,6 +127,8 @@ module _ (words size bytes symbols symbolBytes prefix suffix : ℕ) where
       ∙ some_rest _ _ (le-ltb 255 prefix h₆)
       ∙ some_single (ltb 255 suffix))
 
+pub ruleset many_rules = (many_words, many_pieces, many_bytes, many_symbols, many_symbol_bytes, many_prefix, many_end)
+
 -- what holds of numbers that it does not refuse
 pub record Limits (words size bytes symbols symbolBytes prefix suffix : ℕ) : Type 0 where
   pub words_few : words ≤ 16777216
@@ -158,31 +154,55 @@ limits words size bytes symbols symbolBytes prefix suffix b e h =
       suffix_short = ltb-false _ _ n.1.1.1.1.1.1.0;
     }
 
+-- THE PLACE OF THE FIRST TEST THAT HOLDS, where the tests are counted from i
+
+unfoldable pub place_from : ℕ → List Bool → Option ℕ
+place_from i bs = cond (some? bs) (Some (i + first bs)) None
+
+pub place_start : (bs : List Bool) → first_place bs ≡ place_from 0 bs
+unfolding first_place place_from
+place_start bs = let e : first bs ≡ 0 + first bs = omega arith in ap (λ (n : ℕ). cond (some? bs) (Some n) None) e
+
+module _ (i : ℕ) (b : Bool) (bs : List Bool) where
+  pub place_here : b ≡ true → place_from i (b ∷ bs) ≡ Some i
+  unfolding place_from some? first
+  place_here e = let z : i + 0 ≡ i = omega arith in rw e (ap Some z)
+
+  pub place_later : b ≡ false → place_from i (b ∷ bs) ≡ place_from (i + 1) bs
+  unfolding place_from some? first
+  place_later e =
+      let s : i + suc (first bs) ≡ (i + 1) + first bs = omega arith in
+      rw e (ap (λ (n : ℕ). cond (some? bs) (Some n) None) s)
+
+pub place_end : (i : ℕ) → place_from i [] ≡ None
+unfolding place_from some?
+place_end i = refl
+
 -- ROW 4: the whole answer is the answer from the i-th frequency on
 
-unfoldable pub zero_from : List ℕ → ℕ → ℕ
-zero_from fs i = first (map (eqb 0) (numbers_from 8 fs i))
+unfoldable pub zero_from : List ℕ → ℕ → Option ℕ
+zero_from fs i = place_from i (map (eqb 0) (numbers_from 8 fs i))
 
 module _ (fs : List ℕ) where
-  pub zero_start : first (no_frequency fs) ≡ 0 + zero_from fs 0
+  pub zero_start : first_place (no_frequency fs) ≡ zero_from fs 0
   unfolding no_frequency zero_from
-  zero_start =
-      let e : zero_from fs 0 ≡ 0 + zero_from fs 0 = omega arith in
-      ap (λ (l : List ℕ). first (map (eqb 0) l)) (numbers_start 8 fs) ∙ e
+  zero_start = place_start (no_frequency fs) ∙ ap (λ (l : List ℕ). place_from 0 (map (eqb 0) l)) (numbers_start 8 fs)
 
-  module _ (k i : ℕ) (inv : k ≡ i + zero_from fs i) where
+  module _ (k : Option ℕ) (i : ℕ) (inv : k ≡ zero_from fs i) where
     module _ (f : ℕ) (h : i < length fs / 8) (e : f ≡ nth (numbers 8 fs) i) where
-      here : zero_from fs i ≡ first (eqb 0 f ∷ map (eqb 0) (numbers_from 8 fs (i + 1)))
+      here : zero_from fs i ≡ place_from i (eqb 0 f ∷ map (eqb 0) (numbers_from 8 fs (i + 1)))
       unfolding zero_from
       here = rw (numbers_step 8 fs i h, e)
 
-      pub zero_out : f ≡ 0 → i ≡ k
-      zero_out z = let p = here ∙ first_here _ _ (eq-eqb 0 f (sym z)) in omega arith
+      pub zero_out : f ≡ 0 → Some i ≡ k
+      zero_out z = sym (inv ∙ here ∙ place_here _ _ _ (eq-eqb 0 f (sym z)))
 
-      pub zero_turn : (f ≡ 0 → ⊥) → k ≡ (i + 1) + zero_from fs (i + 1)
+      pub zero_turn : (f ≡ 0 → ⊥) → k ≡ zero_from fs (i + 1)
       unfolding zero_from
-      zero_turn z = let p = here ∙ first_later _ _ (ne_eqb 0 f (λ q. z (sym q))) in omega arith
+      zero_turn z = inv ∙ here ∙ place_later _ _ _ (ne_eqb 0 f (λ q. z (sym q)))
 
-    pub zero_end : length fs / 8 ≤ i → i ≡ k
-    unfolding zero_from first
-    zero_end h = let p : zero_from fs i ≡ 0 = rw (numbers_end 8 fs i h) in omega arith
+    pub zero_end : length fs / 8 ≤ i → None ≡ k
+    unfolding zero_from
+    zero_end h = sym (inv ∙ rw (numbers_end 8 fs i h) (place_end i))
+
+pub ruleset zero_rules = (zero_start, zero_out, zero_turn, zero_end)

@@ -4,10 +4,10 @@ use mathlib.Core.List.{List, map}
 use Prim.Native.Nat.{ℕ, ◌+◌, ◌*◌, ◌-◌, ◌/◌, ◌^◌, ◌≤◌, ◌<◌}
 use native.Mathlib.Omega.{arith}
 use native.Mathlib.Nat.{le-div_iff_mul-le, div-lt_iff_lt-mul}
-use lib.ListN.{length}
+use lib.ListN.{length, take, drop}
 use borrow.Author.Tests.{lt-ltb, le-ltb}
-use Rattle.runs.specs.Parts.{nth}
-use Rattle.runs.proofs.Parts.{below_or_not}
+use Rattle.runs.specs.Parts.{nth, part}
+use Rattle.runs.proofs.Parts.{below_or_not, part-short, part_lent}
 use Rattle.numbers.specs.Little.{numbers}
 use Rattle.rule.specs.Shapes.{parts}
 use Rattle.rule.specs.Table.{chars, units, units_of, total, weighed}
@@ -16,13 +16,19 @@ use Rattle.text.specs.Units.{by_chars, Counted}
 use Rattle.text.proofs.Steps.{counted_units}
 use Rattle.vocab.specs.Places.{numbers_from}
 use Rattle.vocab.proofs.Places.{numbers_start, numbers_step, numbers_end, parts_start, parts_step, parts_end}
-use Rattle.table.specs.Weighing.{unit_count, UnitsIn, capped, Heavier, IsWeighed}
+use Rattle.table.specs.Weighing.{unit_count, capped, Heavier, IsWeighed}
 
--- THE UNITS OF A WORD, as they are counted
+-- THE UNITS OF A WORD that is lent as a part of a run, as they are counted
 
-pub units_counted : (seeding : ℕ) (d : Seeding) (ws : List ℕ) (from to r : ℕ) → from ≤ to → to ≤ length ws
-    → by_chars d ≡ chars seeding → Counted (by_chars d) ws from to r → UnitsIn seeding ws from to r
-units_counted seeding d ws from to r h k e n = record { is = counted_units d seeding e ws from to r n; few = n.few; up = h; inside = k }
+module _ (seeding : ℕ) (d : Seeding) (e : by_chars d ≡ chars seeding) (ws : List ℕ) (from to r : ℕ)
+    (n : Counted (by_chars d) (take (to - from) (drop from ws)) r) where
+  pub lent_units : r ≡ length (units seeding (part from (to - from) ws))
+  lent_units = counted_units d seeding e (take (to - from) (drop from ws)) r n ∙ rw (part_lent from to ws)
+
+  pub lent_few : r ≤ to - from
+  lent_few =
+      let s : length (take (to - from) (drop from ws)) ≤ to - from = rw (part_lent from to ws) (part-short from (to - from) ws) in
+      omega (arith, n.few)
 
 -- A WEIGHT UP TO 2^53
 
@@ -62,6 +68,8 @@ module _ (weight f u : ℕ) (h : weight ≤ 2 ^ 53) where
     pub heavier_sum : f ≤ (2 ^ 53 - weight) / u → Heavier weight f u (weight + f * u)
     heavier_sum k = record { is = sym (capped_low (weight + f * u) (heavier_fits k)); low = heavier_fits k }
 
+pub ruleset heavier_rules = (heavier_none, heavier_top, heavier_fits, heavier_sum)
+
 -- A PASS OVER THE WORDS: the whole weight and all units are those so far and those from the i-th word on, which starts at `last`
 
 unfoldable pub weight_from : ℕ → List ℕ → List ℕ → List ℕ → ℕ → ℕ → ℕ
@@ -83,17 +91,17 @@ module _ (seeding : ℕ) (ws es : List ℕ) where
       let e : weight_from seeding ws es fs 0 0 ≡ 0 + weight_from seeding ws es fs 0 0 = omega arith in
       rw (parts_start ws es, numbers_start 8 fs) (ap capped e)
 
-  module _ (last i e u : ℕ) (h : i < length es / 4) (q : e ≡ nth (numbers 4 es) i) (n : UnitsIn seeding ws last e u) where
+  module _ (last i e u : ℕ) (h : i < length es / 4) (q : e ≡ nth (numbers 4 es) i) (n : u ≡ length (units seeding (part last (e - last) ws))) where
     pub units-turn : (k m : ℕ) → k ≡ m + units_from seeding ws es last i → k ≡ (m + u) + units_from seeding ws es e (i + 1)
     unfolding units_from total
     units-turn k m inv =
-        let z : units_from seeding ws es last i ≡ u + units_from seeding ws es e (i + 1) = rw (parts_step ws es i last e h q, n.is) in
+        let z : units_from seeding ws es last i ≡ u + units_from seeding ws es e (i + 1) = rw (parts_step ws es i last e h q, n) in
         omega arith
 
     module _ (fs : List ℕ) (f : ℕ) (l : i < length fs / 8) (g : f ≡ nth (numbers 8 fs) i) where
       weight_here : weight_from seeding ws es fs last i ≡ f * u + weight_from seeding ws es fs e (i + 1)
       unfolding weight_from weighed
-      weight_here = rw (parts_step ws es i last e h q, numbers_step 8 fs i l, ← g, n.is)
+      weight_here = rw (parts_step ws es i last e h q, numbers_step 8 fs i l, ← g, n)
 
       pub weight_turn : (k w v : ℕ) → Heavier w f u v → k ≡ capped (w + weight_from seeding ws es fs last i) → k ≡ capped (v + weight_from seeding ws es fs e (i + 1))
       weight_turn k w v r inv =

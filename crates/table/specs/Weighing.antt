@@ -1,19 +1,11 @@
 -- What a pass over the words finds: the units of a word, the weight up to 2^53, the units of all words.
-use Rattle.std.specs.Prelude.{◌≡◌, cond, List, map, ℕ, ◌+◌, ◌-◌, ◌*◌, ◌^◌, ◌≤◌, ltb, length}
-use Rattle.runs.specs.Parts.{part}
+use Rattle.std.specs.Prelude.{◌≡◌, cond, List, map, ℕ, ◌+◌, ◌*◌, ◌^◌, ◌≤◌, ltb, length}
 use Rattle.numbers.specs.Little.{numbers}
-use Rattle.rule.specs.Table.{units, units_of, total, weighed}
+use Rattle.rule.specs.Table.{units_of, total, weighed}
 
 -- "Let U be the units of all words", of seeding, word bytes and word ends
 unfoldable pub unit_count : ℕ → List ℕ → List ℕ → ℕ
 unit_count seeding ws es = total (map length (units_of seeding ws es))
-
--- r is how many units the word from `from` to `to` is cut into: no more than its bytes, which are within the run
-pub record UnitsIn (seeding : ℕ) (ws : List ℕ) (from to r : ℕ) : Type 0 where
-  pub is : r ≡ length (units seeding (part from (to - from) ws))
-  pub few : r ≤ to - from
-  pub up : from ≤ to
-  pub inside : to ≤ length ws
 
 -- "2^53 or more" is told as 2^53: a number up to it
 unfoldable pub capped : ℕ → ℕ

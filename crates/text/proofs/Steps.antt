@@ -30,8 +30,8 @@ module _ (d : Seeding) (number : ℕ) (k : by_chars d ≡ chars number) where
   pub start_units : (whole : Bool) (w : List ℕ) → whole ≡ (by_chars d && well_formed w) → units_by whole w ≡ units number w
   start_units whole w e = whole_units whole (by_chars d) w e ∙ seeded-units w
 
-  pub counted_units : (s : List ℕ) (from to r : ℕ) → Counted (by_chars d) s from to r → r ≡ length (units number (part from (to - from) s))
-  counted_units s from to r h = h.is ∙ ap length (seeded-units (part from (to - from) s))
+  pub counted_units : (w : List ℕ) (r : ℕ) → Counted (by_chars d) w r → r ≡ length (units number w)
+  counted_units w r h = h.is ∙ ap length (seeded-units w)
 
 module _ (whole : Bool) (s : List ℕ) (at to : ℕ) where
   -- THE END
@@ -76,5 +76,5 @@ seeding_single Chars Chars h = refl
 pub next_single : {whole : Bool} {s : List ℕ} {at to r q : ℕ} → Next whole s at to r → Next whole s at to q → r ≡ q
 next_single h k = h.is ∙ sym k.is
 
-pub counted_single : {byCharacters : Bool} {s : List ℕ} {from to r q : ℕ} → Counted byCharacters s from to r → Counted byCharacters s from to q → r ≡ q
+pub counted_single : {byCharacters : Bool} {w : List ℕ} {r q : ℕ} → Counted byCharacters w r → Counted byCharacters w q → r ≡ q
 counted_single h k = h.is ∙ sym k.is

@@ -10,7 +10,7 @@ ghost use Rattle.std.specs.Prelude.{◌≡◌, ◌&&◌, ◌+◌, ◌-◌, ◌�
 ghost use Rattle.runs.specs.Parts.{part};
 ghost use Rattle.rfc3629.specs.Cut.{well_formed, cut};
 ghost use Rattle.rule.specs.Table.{chars};
-ghost use Rattle.text.specs.Units.{by_chars, Next, Counted};
+ghost use Rattle.text.specs.Units.{by_chars, chars_in, Next, Counted};
 
 // What the units of a word are: its bytes, or the characters of a well-formed word.
 #[derive(Clone, Copy)]
@@ -22,6 +22,8 @@ pub enum Seeding {
 impl Seeding {
     // The seeding of a setting: 1 is Chars. That the setting is 0 or 1 is not asked here: the table's
     // shape rules refuse any other.
+    // Stays: no TryFrom: it cannot fail, and its clause has an answer for every number (`chars`).
+    #[tactic(auto, using(crate::proofs::Loops::seeding_rules))]
     pub fn from_number(number: u64) -> Seeding
         ensures { by_chars result ≡ chars number }
     {
@@ -32,79 +34,51 @@ impl Seeding {
     }
 }
 
-// Tells whether a word is characters from its start to its end.
-fn all_chars(word: &[u8]) -> bool
-    ensures { result ≡ well_formed word.now }
+// How many characters a word is, if it is characters from its start to its end.
+fn chars_in(word: &[u8]) -> Option<usize>
+    ensures { result ≡ chars_in word.now }
 {
     let mut i = 0;
-    while i < word.len() {
-        let k = chars::char_len(word, i);
-        if k == 0 {
-            return false;
-        }
-        i += k;
-    }
-    true
-}
-
-// How many units a word has under Chars: its characters, or its bytes if it is not well formed.
-fn count_chars(word: &[u8]) -> usize
-    ensures { result ≡ length (cut word.now) }
-{
-    let mut j = 0;
     let mut n = 0;
-    while j < word.len() {
-        let k = chars::char_len(word, j);
-        if k == 0 {
-            return word.len();
-        }
-        j += k;
+    while i < word.len() {
+        i += chars::char_len(word, i)?;
         n += 1;
     }
-    n
+    Some(n)
 }
 
-// Tells whether the word from `from` to `to` is well formed.
-fn well_formed(s: &[u8], from: usize, to: usize) -> bool
-    requires { (from ≤ to) × (to ≤ length s.now) }
-    ensures { result ≡ well_formed (part from (to - from) s.now) }
-{
-    all_chars(&s[from..to])
-}
-
-// Tells whether the word from `from` to `to` is cut into characters.
-pub fn whole(s: &[u8], from: usize, to: usize, seeding: Seeding) -> bool
-    requires { (from ≤ to) × (to ≤ length s.now) }
-    ensures { result ≡ (by_chars seeding && well_formed (part from (to - from) s.now)) }
+// Tells whether a word is cut into characters.
+#[tactic(auto, using(crate::proofs::Loops::whole_rules))]
+pub fn whole(word: &[u8], seeding: Seeding) -> bool
+    ensures { result ≡ (by_chars seeding && well_formed word.now) }
 {
     match seeding {
         Seeding::Bytes => false,
-        Seeding::Chars => well_formed(s, from, to),
+        Seeding::Chars => chars_in(word).is_some(),
     }
 }
 
-// How many units the word from `from` to `to` has.
-pub fn count_units(s: &[u8], from: usize, to: usize, seeding: Seeding) -> usize
-    requires { (from ≤ to) × (to ≤ length s.now) }
-    ensures { Counted (by_chars seeding) s.now from to result }
+// How many units a word has.
+pub fn count_units(word: &[u8], seeding: Seeding) -> usize
+    ensures { Counted (by_chars seeding) word.now result }
 {
     match seeding {
-        Seeding::Bytes => to - from,
-        Seeding::Chars => count_chars(&s[from..to]),
+        Seeding::Bytes => word.len(),
+        Seeding::Chars => chars_in(word).unwrap_or(word.len()),
     }
 }
 
-// Where the unit at `at` ends, in a word that ends at `to` and is cut as `whole` told of it.
-pub fn next_unit(s: &[u8], at: usize, to: usize, whole: bool) -> usize
-    requires { (at < to) × (to ≤ length s.now) }
-    ensures { Next whole s.now at to result }
+// Where the unit at `at` ends, in a word that is cut as `whole` told of it.
+// Stays: a cursor that is told `whole`: callers ask where a unit begins and ends, an iterator tells one.
+pub fn next_unit(word: &[u8], at: usize, whole: bool) -> usize
+    requires { at < length word.now }
+    ensures { Next whole word.now at (length word.now) result }
 {
     if !whole {
         return at + 1;
     }
-    let k = chars::char_len(&s[at..to], 0);
-    if k == 0 {
-        return at + 1;
+    match chars::char_len(word, at) {
+        Some(k) => at + k,
+        None => at + 1,
     }
-    at + k
 }

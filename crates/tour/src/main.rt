@@ -6,7 +6,7 @@
 
 ghost use Rattle.std.specs.Prelude.{◌+◌, ◌≤◌};
 
-use order::Order;
+use std::cmp::Ordering;
 use std::io;
 use std::io::Print;
 
@@ -38,13 +38,14 @@ fn stored(rt: &impl Print, v: u64) -> io::Result<()> {
 }
 
 fn stored_all(rt: &impl Print) -> io::Result<()> {
-    for i in 0..8 {
-        stored(rt, VALUES[i])?;
+    for v in VALUES {
+        stored(rt, v)?;
     }
     Ok(())
 }
 
 // A part of eight letters copied over another part of them.
+// Stays: places and a length, as runs::copy_within takes them.
 fn moved(rt: &impl Print, at: usize, from: usize, n: usize) -> io::Result<()>
     requires { (at + n ≤ 8) × (from + n ≤ 8) }
 {
@@ -58,9 +59,9 @@ fn moved(rt: &impl Print, at: usize, from: usize, n: usize) -> io::Result<()>
 fn ordered(rt: &impl Print, a: &[u8], b: &[u8]) -> io::Result<()> {
     rt.write_all(a)?;
     match order::compare(a, b) {
-        Order::Below => rt.write_all(b" < ")?,
-        Order::Same => rt.write_all(b" = ")?,
-        Order::Above => rt.write_all(b" > ")?,
+        Ordering::Less => rt.write_all(b" < ")?,
+        Ordering::Equal => rt.write_all(b" = ")?,
+        Ordering::Greater => rt.write_all(b" > ")?,
     }
     rt.write_all(b)?;
     rt.write_all(b"\n")

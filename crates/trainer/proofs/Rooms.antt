@@ -21,8 +21,8 @@ use Rattle.error.specs.declared.TrainError.{TrainError}
 use Rattle.error.specs.declared.TrainError.TheVariants as why
 use Rattle.table.specs.Answers.{later_rows}
 use Rattle.trainer.specs.Train.{answered, TableDone, Left, RoomsDone}
-use Rattle.trainer.specs.declared.Answer.{Answer}
-use Rattle.trainer.specs.declared.Answer.TheVariants as is
+use Rattle.std.specs.Prelude.{Result, Ok, Err, is_err}
+use Rattle.trainer.specs.declared.Trained.{Trained}
 
 -- what is written over the front of a run set to 0
 pub laid-filled : (run new : List ℕ) → length new ≤ length run → laid (zeros (length run)) 0 new ≡ filled run new
@@ -95,27 +95,35 @@ module _ (t : Task) (was mid end : Rooms)
       later_lengths t mid was (ap length ep ∙ length-wiped was.pieces) (ap length ee ∙ length-wiped was.piece_ends) (ap length em ∙ length-wiped was.merges)
       (ap length es ∙ length-wiped was.savings)
 
-  pub rooms_done : (r : Answer) (p a m : ℕ) → TableDone r t mid end → r ≡ is.Done p a m → (now : Rooms) → now.work ≡ wiped was.work → now.pieces ≡ end.pieces
-      → now.piece_ends ≡ end.piece_ends → now.merges ≡ end.merges → now.savings ≡ end.savings → RoomsDone (is.Done p a m) t was now
-  unfolding TableDone answered
-  rooms_done r p a m d q now ew e1 e2 e3 e4 =
-      let h = rw q at d in
-      let v = h.0 ∙ same in
-      let f = h.1 in
-      record {
-        answer = v;
-        rooms = rw (← v)
-            (left_written t was now (p ∷ a ∷ m ∷ []) ew
-            (e1 ∙ front_filled was.pieces (piece_bytes (all_pieces t)) mid.pieces end.pieces ep f.pieces f.bytes_fit)
-            (e2 ∙ front_filled was.piece_ends (piece_records (all_pieces t)) mid.piece_ends end.piece_ends ee f.ends f.ends_fit)
-            (e3 ∙ front_filled was.merges (merge_bytes (trained t)) mid.merges end.merges em f.merges f.merges_fit)
-            (e4 ∙ front_filled was.savings (saving_bytes (trained t)) mid.savings end.savings es f.savings f.savings_fit));
-      }
+  module _ (r : Result Trained TrainError) (d : TableDone r t mid end) (work : List ℕ) (ew : work ≡ wiped was.work) where
+    -- the answer stands, in rooms that are left as they are
+    pub rooms_done : (q : is_err r ≡ false) → RoomsDone r t was (record end { work = work })
+    unfolding TableDone answered
+    rooms_done q = go r d q
+      where
+        go : (x : Result Trained TrainError) → TableDone x t mid end → is_err x ≡ false → RoomsDone x t was (record end { work = work })
+        go (Ok y) h z =
+            let v = h.0 ∙ same in
+            let f = h.1 in
+            record {
+              answer = v;
+              rooms = rw (← v)
+                  (left_written t was (record end { work = work }) (y.pieces ∷ y.alphabet ∷ y.merges ∷ []) ew
+                  (front_filled was.pieces (piece_bytes (all_pieces t)) mid.pieces end.pieces ep f.pieces f.bytes_fit)
+                  (front_filled was.piece_ends (piece_records (all_pieces t)) mid.piece_ends end.piece_ends ee f.ends f.ends_fit)
+                  (front_filled was.merges (merge_bytes (trained t)) mid.merges end.merges em f.merges f.merges_fit)
+                  (front_filled was.savings (saving_bytes (trained t)) mid.savings end.savings es f.savings f.savings_fit));
+            }
+        go (Err e) h z = absurd (cc)
 
-  pub rooms-out : (r : Answer) (e : TrainError) → TableDone r t mid end → r ≡ is.Refused e → (now : Rooms) → now.work ≡ wiped was.work → now.pieces ≡ wiped was.pieces
-      → now.piece_ends ≡ wiped was.piece_ends → now.merges ≡ wiped was.merges → now.savings ≡ wiped was.savings → RoomsDone (is.Refused e) t was now
-  unfolding TableDone answered
-  rooms-out r e d q now ew e1 e2 e3 e4 =
-      let h = rw q at d in
-      let v = h.0 ∙ same in
-      record { answer = v; rooms = rw (← v) (left_cleared t was now (train_verdict e) h.1 (refused_some e) ew e1 e2 e3 e4) }
+    -- a refusal, in output rooms that are set to 0 again
+    pub rooms-out : (q : is_err r ≡ true) (now : Rooms) → now.work ≡ work → now.pieces ≡ wiped was.pieces
+        → now.piece_ends ≡ wiped was.piece_ends → now.merges ≡ wiped was.merges → now.savings ≡ wiped was.savings → RoomsDone r t was now
+    unfolding TableDone answered
+    rooms-out q now e0 e1 e2 e3 e4 = go r d q
+      where
+        go : (x : Result Trained TrainError) → TableDone x t mid end → is_err x ≡ true → RoomsDone x t was now
+        go (Ok y) h z = absurd (cc)
+        go (Err e) h z =
+            let v = h.0 ∙ same in
+            record { answer = v; rooms = rw (← v) (left_cleared t was now (train_verdict e) h.1 (refused_some e) (e0 ∙ ew) e1 e2 e3 e4) }

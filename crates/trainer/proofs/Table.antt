@@ -1,5 +1,5 @@
 -- Rows 9 and 10, and rows 8 to 10, of the code's answers: each is the rule's. Assumes nothing.
-use mathlib.Core.Path.{◌≡◌, refl, sym, ap, ◌∙◌}
+use mathlib.Core.Path.{◌≡◌, refl, sym, ap, subst, ◌∙◌}
 use mathlib.Core.List.{List}
 use mathlib.Core.Logic.{◌⊎◌, inl, inr}
 use Prim.Native.Nat.{ℕ, ◌*◌, ◌-◌, ◌/◌, ◌<◌, ◌≤◌}
@@ -27,35 +27,34 @@ use Rattle.intern.proofs.Records.{records_are}
 use Rattle.word.specs.Layout.{words_in}
 use Rattle.word.specs.declared.WordSet.{WordSet}
 use Rattle.encoding.specs.declared.Encoded.{Encoded}
-use Rattle.encoding.specs.declared.Encoded.TheVariants as encoded
 use Rattle.seeding.specs.Seeding.{table, CanSeed, Sown, SeedDone}
 use Rattle.layout.specs.Layout.{units_at, cells_for, IndexSize}
 use Rattle.layout.proofs.Fits.{cells_for_lem}
 use Rattle.engine.specs.Engine.{CanStart}
 use Rattle.training.specs.Training.{Settings, with_merges, Written, TooMuch, TrainedDone}
-use Rattle.training.specs.declared.Trained.{Trained}
-use Rattle.training.specs.declared.Trained.TheVariants as grown
+use Rattle.training.specs.declared.Trained as training
+use Rattle.error.specs.declared.NoRoom.{NoRoom}
 use Rattle.trainer.specs.Train.{task_of, rooms_of, CanGrow, GrownOut, GrownDone, CanTrain, TableDone}
-use Rattle.trainer.specs.declared.Answer.{Answer}
-use Rattle.trainer.specs.declared.Answer.TheVariants as is
+use Rattle.std.specs.Prelude.{Result, Ok, Err}
+use Rattle.trainer.specs.declared.Trained.{Trained}
 use Rattle.trainer.proofs.Weights.{sown_live, kept-weighed}
 use Rattle.trainer.proofs.Rows.{seed_exceeds, vocab_low, output_exceeds, all_fit}
 
 -- ROWS 9 AND 10
 
 module _ (w : WordSet) (n u : ℕ) (prefix : List ℕ) (size least limit : ℕ) (cs xs ys ms ss : List ℕ) where
-  pub grow_low : (vs ws ns ts : List ℕ) → size < n → GrownDone (is.Refused (why.VocabTooSmall size n)) w n u prefix size least limit cs xs ys ms ss vs ws ns ts
+  pub grow_low : (vs ws ns ts : List ℕ) → size < n → GrownDone (Err (why.VocabTooSmall size n)) w n u prefix size least limit cs xs ys ms ss vs ws ns ts
   unfolding GrownDone GrownOut
   grow_low vs ws ns ts h = (refl, refl, h)
 
-  module _ (h : n ≤ size) (r : Trained) (vs ws ns ts : List ℕ) (d : TrainedDone r w n u prefix size least limit cs xs ys ms ss vs ws ns ts) where
-    pub grow_out : r ≡ grown.NoRoom → GrownDone (is.Refused why.OutputRoom) w n u prefix size least limit cs xs ys ms ss vs ws ns ts
+  module _ (h : n ≤ size) (r : Result training.Trained NoRoom) (vs ws ns ts : List ℕ) (d : TrainedDone r w n u prefix size least limit cs xs ys ms ss vs ws ns ts) where
+    pub grow_out : (e : NoRoom) → r ≡ Err e → GrownDone (Err why.OutputRoom) w n u prefix size least limit cs xs ys ms ss vs ws ns ts
     unfolding GrownDone GrownOut
-    grow_out e = (h, rw e at d)
+    grow_out e q = (h, rw q at d)
 
-    pub grow_done : (p v k : ℕ) → r ≡ grown.Done p v k → GrownDone (is.Done p n k) w n u prefix size least limit cs xs ys ms ss vs ws ns ts
+    pub grow_done : (x : training.Trained) → r ≡ Ok x → GrownDone (Ok (record { pieces = x.filled.count; alphabet = n; merges = x.merges })) w n u prefix size least limit cs xs ys ms ss vs ws ns ts
     unfolding GrownDone
-    grow_done p v k e = (h, refl, (v, rw e at d))
+    grow_done x e = (h, refl, (x.filled.used, rw e at d))
 
 -- the room that document 01 asks for, in cells
 room_cells : (u a : ℕ) (work : List ℕ) → room_for u a ≤ length work → cells_for u 0 ≤ length (cells work)
@@ -117,12 +116,12 @@ module _ (ws es fs al ae p s : List ℕ) (seeding size least limit : ℕ) where
     abbrev was : Rooms
     was = rooms_of work xs ys ms ss
 
-    module _ (units : ℕ) (e : Encoded) (cs vs zs : List ℕ) (d : SeedDone e (table ws es fs al ae p s seeding) units xs ys cs vs zs) where
-      pub table-out : e ≡ encoded.NoRoom → (now : Rooms) → TableDone (is.Refused why.SeedRoom) t was now
+    module _ (units : ℕ) (e : Result Encoded NoRoom) (cs vs zs : List ℕ) (d : SeedDone e (table ws es fs al ae p s seeding) units xs ys cs vs zs) where
+      pub table-out : (k : NoRoom) → e ≡ Err k → (now : Rooms) → TableDone (Err why.SeedRoom) t was now
       unfolding SeedDone TableDone train_verdict
-      table-out q now = (seed_exceeds t was (rw same_seeds at (rw q at d)), refl)
+      table-out k q now = (seed_exceeds t was (rw same_seeds at (rw q at d)), refl)
 
-      module _ (c u : ℕ) (w : WordSet) (q : e ≡ encoded.Done c u w) where
+      module _ (c u : ℕ) (w : WordSet) (q : e ≡ Ok (record { filled = record { count = c; used = u }; words = w })) where
         sown : Sown (table ws es fs al ae p s seeding) units xs ys cs vs zs c u w
         unfolding SeedDone
         sown = rw q at d
@@ -159,7 +158,7 @@ module _ (ws es fs al ae p s : List ℕ) (seeding size least limit : ℕ) where
               frequent = rw view (kept-weighed t g.frequent);
             }
 
-        module _ (a : Answer) (ls ks ns ts : List ℕ) (g : GrownDone a w c u p size least limit cs vs zs ms ss ls ks ns ts) (b : Bytes ks) (after : List ℕ) where
+        module _ (a : Result Trained TrainError) (ls ks ns ts : List ℕ) (g : GrownDone a w c u p size least limit cs vs zs ms ss ls ks ns ts) (b : Bytes ks) (after : List ℕ) where
           settings : Settings t p least limit
           settings = record { prefix_is = refl; least_is = refl; limit_is = refl }
 
@@ -178,7 +177,7 @@ module _ (ws es fs al ae p s : List ℕ) (seeding size least limit : ℕ) where
           table_done = go a g
             where
               done : (n v k : ℕ) → c ≤ size → Written (train_from t (size - c) (pieces vs zs c) (words_in w cs)) c u vs zs ms ss ls ks ns ts n v k
-                  → TableDone (is.Done n c k) t was (rooms_of after ls ks ns ts)
+                  → TableDone (Ok (record { pieces = n; alphabet = c; merges = k })) t was (rooms_of after ls ks ns ts)
               done n v k h x =
                   let o = rw merges_are at x in
                   let ps : pieces ls ks n ≡ all_pieces t = o.are ∙ all_are in
@@ -205,7 +204,7 @@ module _ (ws es fs al ae p s : List ℕ) (seeding size least limit : ℕ) where
                   )
 
               out : (r : TrainError) → GrownOut r w c u p size least limit cs vs zs ms ss ls ks ns ts
-                  → TableDone (is.Refused r) t was (rooms_of after ls ks ns ts)
+                  → TableDone (Err r) t was (rooms_of after ls ks ns ts)
               out (why.VocabTooSmall i j) h =
                   (rw (h.0, h.1, number) (vocab_low t was ends_fit bytes_fit (omega (arith, number, h.2))), refl)
               out why.OutputRoom h =
@@ -224,7 +223,8 @@ module _ (ws es fs al ae p s : List ℕ) (seeding size least limit : ℕ) where
               out (why.WorkRoom i) h = absurd h
               out why.SeedRoom h = absurd h
 
-              go : (r : Answer) → GrownDone r w c u p size least limit cs vs zs ms ss ls ks ns ts
+              go : (r : Result Trained TrainError) → GrownDone r w c u p size least limit cs vs zs ms ss ls ks ns ts
                   → TableDone r t was (rooms_of after ls ks ns ts)
-              go (is.Done n a k) h = rw h.1 (done n h.2.0 k h.0 (h.2.1 t settings))
-              go (is.Refused r) h = out r h
+              go (Ok x) h = subst (λ (i : ℕ). TableDone (Ok (record { pieces = x.pieces; alphabet = i; merges = x.merges })) t was (rooms_of after ls ks ns ts))
+                  (sym h.1) (done x.pieces h.2.0 x.merges h.0 (h.2.1 t settings))
+              go (Err r) h = out r h

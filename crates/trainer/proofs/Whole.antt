@@ -14,23 +14,21 @@ use Rattle.error.specs.declared.TrainError.{TrainError}
 use Rattle.error.specs.declared.TrainError.TheVariants as why
 use Rattle.table.specs.Weighing.{unit_count}
 use Rattle.table.specs.Answers.{words_answer, table_answer, task_answer}
-use Rattle.table.specs.declared.Judged.{Judged}
-use Rattle.table.specs.declared.Judged.TheVariants as judged
 use Rattle.table.proofs.Answers.{refused_verdict, fine_verdict}
 use Rattle.table.proofs.Passed.{task_answer_lem, Passed, fine_when, passed_sound, passed_limits, passed_light, passed_frequency, passed_few, passed_room}
 use Rattle.trainer.specs.Train.{task_of, rooms_of, answered, CanTrain, RoomsDone, TrainDone}
-use Rattle.trainer.specs.declared.Answer.{Answer}
-use Rattle.trainer.specs.declared.Answer.TheVariants as is
+use Rattle.std.specs.Prelude.{Result, Ok, Err}
+use Rattle.trainer.specs.declared.Trained.{Trained}
 use Rattle.trainer.proofs.Rooms.{refused_some, left_untouched}
 
 -- the rows before the eighth leave the rooms alone
-unfoldable Early : Judged → Type 0
-Early (judged.Fine u) = Unit {0}
-Early (judged.Refused e) = clears (train_verdict e).number ≡ false
+unfoldable Early : Result ℕ TrainError → Type 0
+Early (Ok u) = Unit {0}
+Early (Err e) = clears (train_verdict e).number ≡ false
 
 seven : (a b c d e f g : Bool) (i j k u : ℕ)
-    → Early (cond a (judged.Refused why.BadShape) (cond b (judged.Refused why.TooMany) (cond c (judged.Refused why.EmptyCorpus) (cond d (judged.Refused (why.ZeroFrequency i))
-    (cond e (judged.Refused (why.OutOfOrder j)) (cond f (judged.Refused why.TooHeavy) (cond g (judged.Refused (why.WorkRoom k)) (judged.Fine u))))))))
+    → Early (cond a (Err why.BadShape) (cond b (Err why.TooMany) (cond c (Err why.EmptyCorpus) (cond d (Err (why.ZeroFrequency i))
+    (cond e (Err (why.OutOfOrder j)) (cond f (Err why.TooHeavy) (cond g (Err (why.WorkRoom k)) (Ok u))))))))
 unfolding Early train_verdict
 seven true b c d e f g i j k u = refl
 seven false true c d e f g i j k u = refl
@@ -48,7 +46,7 @@ early ws es fs al ae pre suf seeding size room =
     (out_of_order ws es) (too_heavy ws es fs seeding) (work_room room (room_for (unit_count seeding ws es) (length ae / 4))) (first (no_frequency fs)) (first (misplaced ws es))
     (room_for (unit_count seeding ws es) (length ae / 4)) (unit_count seeding ws es)
 
-module _ (ws es fs al ae p s : List ℕ) (seeding size least limit : ℕ) (work xs ys ms ss : List ℕ) (j : Judged) (n : ℕ) (e : n ≡ length work)
+module _ (ws es fs al ae p s : List ℕ) (seeding size least limit : ℕ) (work xs ys ms ss : List ℕ) (j : Result ℕ TrainError) (n : ℕ) (e : n ≡ length work)
     (a : j ≡ table_answer ws es fs al ae p s seeding size n) where
   abbrev t : Task
   t = task_of ws es fs al ae p s seeding size least limit
@@ -60,8 +58,8 @@ module _ (ws es fs al ae p s : List ℕ) (seeding size least limit : ℕ) (work 
   told = task_answer_lem t was ∙ sym (rw e at a)
 
   -- REFUSED by one of the first seven rows
-  pub train_refused : (r : TrainError) → j ≡ judged.Refused r
-      → TrainDone (is.Refused r) t was was
+  pub train_refused : (r : TrainError) → j ≡ Err r
+      → TrainDone (Err r) t was was
   unfolding answered Early
   train_refused r q =
       let v = refused_verdict t was r (told ∙ q) in
@@ -71,11 +69,11 @@ module _ (ws es fs al ae p s : List ℕ) (seeding size least limit : ℕ) (work 
         rooms = rw v (left_untouched t was (train_verdict r) k (refused_some r));
       }
     where
-      go : (x : Judged) → x ≡ judged.Refused r → Early x → clears (train_verdict r).number ≡ false
+      go : (x : Result ℕ TrainError) → x ≡ Err r → Early x → clears (train_verdict r).number ≡ false
       go x i h = rw i at h
 
   -- PASSED
-  module _ (u : ℕ) (q : j ≡ judged.Fine u) where
+  module _ (u : ℕ) (q : j ≡ Ok u) where
     passed : Passed t was u
     passed = fine_when t was u (told ∙ q)
 
@@ -103,7 +101,7 @@ module _ (ws es fs al ae p s : List ℕ) (seeding size least limit : ℕ) (work 
           frequent = passed_frequency t was u passed;
         }
 
-    pub train_done : (r : Answer) (now : Rooms) → RoomsDone r t was now
+    pub train_done : (r : Result Trained TrainError) (now : Rooms) → RoomsDone r t was now
         → TrainDone r t was now
     train_done r now d =
         let v = fine_verdict t was u (told ∙ q) in

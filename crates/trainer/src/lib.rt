@@ -8,28 +8,24 @@
 ghost use Rattle.std.specs.Prelude.{◌≡◌, ◌≤◌};
 ghost use Rattle.cells.specs.Cells.{cells};
 ghost use Rattle.rule.specs.Outcome.{wiped};
-ghost use Rattle.trainer.specs.Train.{task_of, rooms_of, CanGrow, GrownDone, CanTrain, TableDone, RoomsDone, TrainDone};
+ghost use Rattle.trainer.specs.Train.{asked, rooms_of, CanGrow, GrownDone, CanTrain, TableDone, RoomsDone, TrainDone};
 
-use encoding::Encoded;
-use error::TrainError;
+use error::{NoRoom, TrainError};
 use pairs::Pairs;
-use table::Judged;
-use training::Trained;
+use table::{Settings, Table};
+use vocab::Filled;
 use word::WordSet;
 
-// What training comes to: how many pieces, alphabet pieces and merges there are, or why a table is
-// refused.
+// What training comes to: how many pieces, alphabet pieces and merges there are.
 #[derive(Clone, Copy)]
-pub enum Answer {
-    Done {
-        pieces: u64,
-        alphabet: u64,
-        merges: u64,
-    },
-    Refused(TrainError),
+pub struct Trained {
+    pub pieces: u64,
+    pub alphabet: u64,
+    pub merges: u64,
 }
 
 // Rows 9 and 10 of a seeded table, and its merges.
+// Stays: the rooms apart, as in `train`; a match, no From: NoRoom is OutputRoom here, SeedRoom below.
 fn grow(
     work: &mut [u8],
     set: WordSet,
@@ -38,123 +34,81 @@ fn grow(
     piece_ends: &mut [u8],
     merges: &mut [u8],
     savings: &mut [u8],
-    count: usize,
-    used: usize,
+    filled: Filled,
     prefix: &[u8],
-    vocab_size: u64,
-    min_frequency: u64,
-    max_piece_length: u64,
-) -> Answer
-    requires can_grow { CanGrow set count used units (cells work.old) pieces.old piece_ends.old }
-    requires vocab_size_bound { vocab_size ≤ 16777216 }
-    ensures { GrownDone result set count used prefix.now vocab_size min_frequency max_piece_length
+    settings: Settings,
+) -> Result<Trained, TrainError>
+    requires can_grow { CanGrow set filled.count filled.used units (cells work.old) pieces.old piece_ends.old }
+    requires vocab_size_bound { settings.vocab_size ≤ 16777216 }
+    ensures { GrownDone result set filled.count filled.used prefix.now
+        settings.vocab_size settings.min_frequency settings.max_piece_length
         (cells work.old) pieces.old piece_ends.old merges.old savings.old
         pieces.new piece_ends.new merges.new savings.new }
 {
-    if vocab_size < count as u64 {
-        return Answer::Refused(TrainError::VocabTooSmall {
-            requested: vocab_size,
-            alphabet: count as u64,
+    let alphabet = filled.count as u64;
+    if settings.vocab_size < alphabet {
+        return Err(TrainError::VocabTooSmall {
+            requested: settings.vocab_size,
+            alphabet,
         });
     }
-    let base = layout::units_at(units);
-    let cap = layout::index_for(units);
     let p = Pairs {
-        base: base,
-        cap: cap,
+        base: layout::units_at(units),
+        cap: layout::index_for(units),
         most: 3 * units,
     };
     let r = training::train_words(
-        work,
-        set,
-        p,
-        pieces,
-        piece_ends,
-        merges,
-        savings,
-        count,
-        used,
-        prefix,
-        vocab_size,
-        min_frequency,
-        max_piece_length,
+        work, set, p, pieces, piece_ends, merges, savings, filled, prefix, settings,
     );
     match r {
-        Trained::NoRoom => Answer::Refused(TrainError::OutputRoom),
-        Trained::Done(n, _, k) => Answer::Done {
-            pieces: n as u64,
-            alphabet: count as u64,
-            merges: k as u64,
-        },
+        Ok(grown) => Ok(Trained {
+            pieces: grown.filled.count as u64,
+            alphabet,
+            merges: grown.merges as u64,
+        }),
+        Err(NoRoom) => Err(TrainError::OutputRoom),
     }
 }
 
 // Sets a run to 0.
+#[tactic(auto, unfolding(rule::specs::Outcome::wiped, runs::specs::Parts::zeros))]
 fn wipe(run: &mut [u8])
     ensures { run.new ≡ wiped run.old }
 {
-    let n = run.len();
-    runs::clear(run, 0, n);
+    run.fill(0);
 }
 
 // Rows 8 to 10 of a table that the first seven do not refuse, in output rooms that are 0.
+// Stays: the rooms apart, as in `train`.
 fn train_table(
-    words: &[u8],
-    word_ends: &[u8],
-    frequencies: &[u8],
-    alphabet: &[u8],
-    alphabet_ends: &[u8],
-    prefix: &[u8],
-    suffix: &[u8],
-    seeding: u64,
-    vocab_size: u64,
-    min_frequency: u64,
-    max_piece_length: u64,
+    t: Table,
+    settings: Settings,
     units: usize,
     work: &mut [u8],
     pieces: &mut [u8],
     piece_ends: &mut [u8],
     merges: &mut [u8],
     savings: &mut [u8],
-) -> Answer
-    requires { CanTrain (task_of words.now word_ends.now frequencies.now alphabet.now alphabet_ends.now prefix.now suffix.now
-        seeding vocab_size min_frequency max_piece_length) units work.old }
-    ensures { TableDone result (task_of words.now word_ends.now frequencies.now alphabet.now alphabet_ends.now
-        prefix.now suffix.now seeding vocab_size min_frequency max_piece_length)
+) -> Result<Trained, TrainError>
+    requires { CanTrain (asked t settings) units work.old }
+    ensures { TableDone result (asked t.entry settings)
         (rooms_of work.old pieces.old piece_ends.old merges.old savings.old)
         (rooms_of work.new pieces.new piece_ends.new merges.new savings.new) }
 {
-    let s = seeding::seed(
-        work,
-        pieces,
-        piece_ends,
-        words,
-        word_ends,
-        frequencies,
-        alphabet,
-        alphabet_ends,
-        prefix,
-        suffix,
-        seeding,
-        units,
-    );
-    match s {
-        Encoded::NoRoom => Answer::Refused(TrainError::SeedRoom),
-        Encoded::Done(count, used, set) => grow(
+    match seeding::seed(work, pieces, piece_ends, t, units) {
+        Ok(seeds) => grow(
             work,
-            set,
+            seeds.words,
             units,
             pieces,
             piece_ends,
             merges,
             savings,
-            count,
-            used,
-            prefix,
-            vocab_size,
-            min_frequency,
-            max_piece_length,
+            seeds.filled,
+            t.prefix,
+            settings,
         ),
+        Err(NoRoom) => Err(TrainError::SeedRoom),
     }
 }
 
@@ -170,127 +124,57 @@ fn wipe_outputs(pieces: &mut [u8], piece_ends: &mut [u8], merges: &mut [u8], sav
 }
 
 // Trains on a table that the first seven rows do not refuse, and leaves every room as it must be.
+// Stays: the rooms apart, as in `train`.
 fn train_rooms(
-    words: &[u8],
-    word_ends: &[u8],
-    frequencies: &[u8],
-    alphabet: &[u8],
-    alphabet_ends: &[u8],
-    prefix: &[u8],
-    suffix: &[u8],
-    seeding: u64,
-    vocab_size: u64,
-    min_frequency: u64,
-    max_piece_length: u64,
+    t: Table,
+    settings: Settings,
     units: usize,
     work: &mut [u8],
     pieces: &mut [u8],
     piece_ends: &mut [u8],
     merges: &mut [u8],
     savings: &mut [u8],
-) -> Answer
-    requires { CanTrain (task_of words.now word_ends.now frequencies.now alphabet.now alphabet_ends.now prefix.now suffix.now
-        seeding vocab_size min_frequency max_piece_length) units work.old }
-    ensures { RoomsDone result (task_of words.now word_ends.now frequencies.now alphabet.now alphabet_ends.now
-        prefix.now suffix.now seeding vocab_size min_frequency max_piece_length)
+) -> Result<Trained, TrainError>
+    requires { CanTrain (asked t settings) units work.old }
+    ensures { RoomsDone result (asked t.entry settings)
         (rooms_of work.old pieces.old piece_ends.old merges.old savings.old)
         (rooms_of work.new pieces.new piece_ends.new merges.new savings.new) }
 {
     wipe_outputs(pieces, piece_ends, merges, savings);
     let r = train_table(
-        words,
-        word_ends,
-        frequencies,
-        alphabet,
-        alphabet_ends,
-        prefix,
-        suffix,
-        seeding,
-        vocab_size,
-        min_frequency,
-        max_piece_length,
-        units,
-        work,
-        pieces,
-        piece_ends,
-        merges,
-        savings,
+        t, settings, units, work, pieces, piece_ends, merges, savings,
     );
     wipe(work);
-    match r {
-        Answer::Done {
-            pieces: p,
-            alphabet: a,
-            merges: m,
-        } => Answer::Done {
-            pieces: p,
-            alphabet: a,
-            merges: m,
-        },
-        Answer::Refused(why) => {
-            wipe_outputs(pieces, piece_ends, merges, savings);
-            Answer::Refused(why)
-        }
+    if r.is_err() {
+        wipe_outputs(pieces, piece_ends, merges, savings);
     }
+    r
 }
 
 // Trains a vocabulary: "Any word table, setting or room gets an answer".
+// Stays: the rooms are runs that C lends, a parameter each, as in `rindovesh_train`.
 pub fn train(
-    words: &[u8],
-    word_ends: &[u8],
-    frequencies: &[u8],
-    alphabet: &[u8],
-    alphabet_ends: &[u8],
-    prefix: &[u8],
-    suffix: &[u8],
-    seeding: u64,
-    vocab_size: u64,
-    min_frequency: u64,
-    max_piece_length: u64,
+    t: Table,
+    settings: Settings,
     work: &mut [u8],
     pieces: &mut [u8],
     piece_ends: &mut [u8],
     merges: &mut [u8],
     savings: &mut [u8],
-) -> Answer
-    ensures { TrainDone result (task_of words.now word_ends.now frequencies.now alphabet.now alphabet_ends.now
-        prefix.now suffix.now seeding vocab_size min_frequency max_piece_length)
+) -> Result<Trained, TrainError>
+    ensures { TrainDone result (asked t.entry settings)
         (rooms_of work.old pieces.old piece_ends.old merges.old savings.old)
         (rooms_of work.new pieces.new piece_ends.new merges.new savings.new) }
 {
-    let n = work.len();
-    let judged = table::judge(
-        words,
-        word_ends,
-        frequencies,
-        alphabet,
-        alphabet_ends,
-        prefix,
-        suffix,
-        seeding,
-        vocab_size,
-        n,
-    );
-    match judged {
-        Judged::Refused(why) => Answer::Refused(why),
-        Judged::Fine { units } => train_rooms(
-            words,
-            word_ends,
-            frequencies,
-            alphabet,
-            alphabet_ends,
-            prefix,
-            suffix,
-            seeding,
-            vocab_size,
-            min_frequency,
-            max_piece_length,
-            units as usize,
-            work,
-            pieces,
-            piece_ends,
-            merges,
-            savings,
-        ),
-    }
+    let units = table::judge(t, settings.vocab_size, work.len())?;
+    train_rooms(
+        t,
+        settings,
+        units as usize,
+        work,
+        pieces,
+        piece_ends,
+        merges,
+        savings,
+    )
 }

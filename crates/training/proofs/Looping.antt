@@ -5,6 +5,8 @@ use mathlib.Core.Logic.{◌⊎◌, inl, inr}
 use Prim.Native.Nat.{ℕ, suc, ◌+◌, ◌*◌, ◌-◌, ◌<◌, ◌≤◌, max}
 use native.Mathlib.Omega.{arith}
 use lib.ListN.{length}
+use Rattle.std.specs.Prelude.{Some, None, Result, Ok, Err, IsErr}
+use Rattle.error.specs.declared.NoRoom.{NoRoom}
 use Rattle.rule.specs.Table.{Task}
 use Rattle.rule.specs.Spelling.{joined}
 use Rattle.rule.specs.Seeding.{Entry}
@@ -21,11 +23,9 @@ use Rattle.engine.specs.Engine.{Engaged, Limits, Waiting, Started, CanJoin}
 use Rattle.engine.specs.declared.Engine.{Engine}
 use Rattle.choosing.specs.Choosing.{CanChoose, Picked, NextDone}
 use Rattle.choosing.specs.declared.Next.{Next}
-use Rattle.choosing.specs.declared.Next.TheVariants as next
 use Rattle.training.specs.Training.{ApplyDone, Settings, Written, TooMuch, TrainedDone}
 use Rattle.training.specs.declared.Applied.{Applied}
-use Rattle.training.specs.declared.Applied.TheVariants as applied
-use Rattle.training.specs.declared.Trained.TheVariants as trained
+use Rattle.training.specs.declared.Trained.{Trained}
 use Rattle.training.proofs.Turning.{Standing, Toward, standing_start, toward_start, toward_end, toward_lacks, toward_no_place, toward_next, standing_next}
 
 -- the merges that are to come
@@ -73,21 +73,21 @@ module _ (es₀ : List Entry) (n₀ u₀ : ℕ) (prefix : List ℕ) (size least 
   pub loop_can : CanChoose g n prefix limit (pieces vs ws n) cs
   loop_can = record { engaged = l.engaged; numbers = length-pieces vs ws n; waiting = l.waiting }
 
-  module _ (floor : ℕ) (f : floor ≡ max 1 least) (r : Next) (ds : List ℕ) (d : NextDone r g n prefix limit floor (pieces vs ws n) cs ds) where
+  module _ (floor : ℕ) (f : floor ≡ max 1 least) where
     least_of : (t : Task) → Settings t prefix least limit → max 1 t.min_frequency ≡ floor
     least_of t q = rw (q.least_is, f)
 
     -- no pair may be merged
-    stop : r ≡ next.Nothing → Ends n u k
+    stop : (ds : List ℕ) → NextDone None g n prefix limit floor (pieces vs ws n) cs ds → Ends n u k
     unfolding NextDone
-    stop e = let h = rw e at d in over (λ t q. train_spent t (size - n) (pieces vs ws n) (words_in g.words cs) (h t (limits_of t prefix least limit q) (least_of t q)))
+    stop ds d = over (λ t q. train_spent t (size - n) (pieces vs ws n) (words_in g.words cs) (d t (limits_of t prefix least limit q) (least_of t q)))
 
-    module _ (h : Engine) (a b times : ℕ) (e : r ≡ next.Pair h a b times) where
-      picked : Picked g n prefix limit floor (pieces vs ws n) cs ds h a b times
+    module _ (next : Next) (ds : List ℕ) (d : NextDone (Some next) g n prefix limit floor (pieces vs ws n) cs ds) where
+      picked : Picked g n prefix limit floor (pieces vs ws n) cs ds next.engine next.left next.right next.count
       unfolding NextDone
-      picked = rw e at d
+      picked = d
 
-      pub loop_join : n < size → size ≤ 16777216 → CanJoin h a b n ds
+      pub loop_join : n < size → size ≤ 16777216 → CanJoin next.engine next.left next.right n ds
       loop_join less small =
           let c = picked in
           record {
@@ -106,7 +106,13 @@ module _ (es₀ : List Entry) (n₀ u₀ : ℕ) (prefix : List ℕ) (size least 
             waiting = rw c.view c.waiting;
           }
 
-      -- the spelling that is made
+      -- the pair, and the spelling that is made
+      abbrev a : ℕ
+      a = next.left
+
+      abbrev b : ℕ
+      b = next.right
+
       abbrev s : List ℕ
       s = joined prefix (piece_at vs ws a) (piece_at vs ws b)
 
@@ -117,7 +123,7 @@ module _ (es₀ : List Entry) (n₀ u₀ : ℕ) (prefix : List ℕ) (size least 
       module _ (less : n < size) (t : Task) (q : Settings t prefix least limit) where
         -- the next merge, as the rule has it
         abbrev here : Merge
-        here = record { left = a; right = b; saved = times; spelled = s }
+        here = record { left = a; right = b; saved = next.count; spelled = s }
 
         is_here : merge_of t (pieces vs ws n) (words_in g.words cs) a b ≡ here
         unfolding saving
@@ -133,49 +139,63 @@ module _ (es₀ : List Entry) (n₀ u₀ : ℕ) (prefix : List ℕ) (size least 
             ∙ train_next t (size - (n + 1)) (pieces vs ws n) (words_in g.words cs) a b (picked.chosen t (limits_of t prefix least limit q) (least_of t q))
             ∙ rw (is_here, length-pieces vs ws n, joining t (limits_of t prefix least limit q))
 
-      module _ (less : n < size) (r₂ : Applied) (fs vs₂ ws₂ ns₂ ts₂ : List ℕ)
-          (done : ApplyDone r₂ h n u k a b times s ds vs ws ns ts fs vs₂ ws₂ ns₂ ts₂) where
-        out : r₂ ≡ applied.NoRoom → (t : Task) → Settings t prefix least limit → TooMuch (coming t size n₀ xs ys es₀) (pieces xs ys n₀) xs ys ms ss
+      module _ (less : n < size) (fs vs₂ ws₂ ns₂ ts₂ : List ℕ) where
+        out : (e : NoRoom) → ApplyDone (Err e) next.engine n u k a b next.count s ds vs ws ns ts fs vs₂ ws₂ ns₂ ts₂
+            → (t : Task) → Settings t prefix least limit → TooMuch (coming t size n₀ xs ys es₀) (pieces xs ys n₀) xs ys ms ss
         unfolding ApplyDone
-        out i t q = go (rw i at done)
+        out e done t q = go done
           where
             go : Lacks n u s vs ws ⊎ ((length ns < k * 8 + 8) ⊎ (length ts < k * 8 + 8)) → TooMuch (coming t size n₀ xs ys es₀) (pieces xs ys n₀) xs ys ms ss
             go (inl x) = toward_lacks n₀ u₀ xs ys ms ss vs ws ns ts n u k l.standing (coming t size n₀ xs ys es₀) (coming t size n vs ws (words_in g.words cs)) (l.toward t q) (here less t q) (rest less t q) (unrolled less t q) x
             go (inr x) = toward_no_place n₀ u₀ xs ys ms ss vs ws ns ts n u k l.standing (coming t size n₀ xs ys es₀) (coming t size n vs ws (words_in g.words cs)) (l.toward t q) (here less t q) (rest less t q) (unrolled less t q) x
 
-        pub loop_next : (u₂ : ℕ) (g₂ : Engine) → r₂ ≡ applied.Done u₂ g₂ → Looping es₀ n₀ u₀ prefix size least limit xs ys ms ss fs vs₂ ws₂ ns₂ ts₂ g₂ (n + 1) u₂ (k + 1)
+        pub loop_next : (r : Applied) → ApplyDone (Ok r) next.engine n u k a b next.count s ds vs ws ns ts fs vs₂ ws₂ ns₂ ts₂
+            → Looping es₀ n₀ u₀ prefix size least limit xs ys ms ss fs vs₂ ws₂ ns₂ ts₂ r.engine r.filled.count r.filled.used (k + 1)
         unfolding ApplyDone
-        loop_next u₂ g₂ i =
-            let x = rw i at done in
-            let more = x.0 in
-            let j = x.2 in
+        loop_next r x =
+            let more = x.1 in
+            let j = x.3 in
             let c = picked in
-            let v : words_in g₂.words fs ≡ rewrite_all a b n (words_in g.words cs) = j.view ∙ ap (rewrite_all a b n) c.view in
+            let v : words_in r.engine.words fs ≡ rewrite_all a b n (words_in g.words cs) = j.view ∙ ap (rewrite_all a b n) c.view in
             let wait = j.waiting prefix limit (pieces vs ws n) c.entry s (length-pieces vs ws n) c.left_is c.right_is joining (rw c.view c.waiting) in
-            record {
-              standing = standing_next n₀ u₀ xs ys ms ss vs ws ns ts n u k l.standing a b times s vs₂ ws₂ u₂ more ns₂ ts₂ x.1;
+            rw x.0 (record {
+              standing = standing_next n₀ u₀ xs ys ms ss vs ws ns ts n u k l.standing a b next.count s vs₂ ws₂ r.filled.used more ns₂ ts₂ x.2;
               toward = λ t q. rw (more.are, v)
                   (rw more.are at (toward_next n₀ u₀ xs ys ms ss vs ws ns ts n u k l.standing (coming t size n₀ xs ys es₀) (coming t size n vs ws (words_in g.words cs)) (l.toward t q)
-                  (here less t q) (rest less t q) (unrolled less t q) vs₂ ws₂ u₂ more ns₂ ts₂ x.1));
+                  (here less t q) (rest less t q) (unrolled less t q) vs₂ ws₂ r.filled.used more ns₂ ts₂ x.2));
               engaged = j.engaged;
               waiting = rw (more.are, j.view) wait;
-            }
+            })
+
+-- a turn adds a piece
+pub loop_number : (g : Engine) (n u k a b times : ℕ) (s cs xs ys ms ss ds vs ws ns ts : List ℕ) (r : Applied)
+    → ApplyDone (Ok r) g n u k a b times s cs xs ys ms ss ds vs ws ns ts → r.filled.count ≡ n + 1
+unfolding ApplyDone
+loop_number g n u k a b times s cs xs ys ms ss ds vs ws ns ts r x = x.0
 
 -- THE WAYS OUT, as the contract has them: the words at the start are those of the set w₀
 module _ (w₀ : WordSet) (bs : List ℕ) (es₀ : List Entry) (n₀ u₀ : ℕ) (prefix : List ℕ) (size least limit : ℕ) (xs ys ms ss cs vs ws ns ts : List ℕ) (g : Engine) (n u k : ℕ)
     (z : es₀ ≡ words_in w₀ bs) (l : Looping es₀ n₀ u₀ prefix size least limit xs ys ms ss cs vs ws ns ts g n u k) where
-  pub loop_full : size ≤ n → TrainedDone (trained.Done n u k) w₀ n₀ u₀ prefix size least limit bs xs ys ms ss vs ws ns ts
+  -- what is told then: each merge is a piece more
+  abbrev told : Trained
+  told = record { filled = record { count = n; used = u }; merges = n - n₀ }
+
+  made : n - n₀ ≡ k
+  made = omega (arith, l.standing.number)
+
+  pub loop_full : size ≤ n → TrainedDone (Ok told) w₀ n₀ u₀ prefix size least limit bs xs ys ms ss vs ws ns ts
   unfolding TrainedDone
-  loop_full h = rw (← z) (full es₀ n₀ u₀ prefix size least limit xs ys ms ss cs vs ws ns ts g n u k l h)
+  loop_full h = rw (← z, made) (full es₀ n₀ u₀ prefix size least limit xs ys ms ss cs vs ws ns ts g n u k l h)
 
-  module _ (floor : ℕ) (f : floor ≡ max 1 least) (r : Next) (ds : List ℕ) (d : NextDone r g n prefix limit floor (pieces vs ws n) cs ds) where
-    pub loop_stop : r ≡ next.Nothing → TrainedDone (trained.Done n u k) w₀ n₀ u₀ prefix size least limit bs xs ys ms ss vs ws ns ts
+  module _ (floor : ℕ) (f : floor ≡ max 1 least) where
+    pub loop_stop : (ds : List ℕ) → NextDone None g n prefix limit floor (pieces vs ws n) cs ds → TrainedDone (Ok told) w₀ n₀ u₀ prefix size least limit bs xs ys ms ss vs ws ns ts
     unfolding TrainedDone
-    loop_stop e = rw (← z) (stop es₀ n₀ u₀ prefix size least limit xs ys ms ss cs vs ws ns ts g n u k l floor f r ds d e)
+    loop_stop ds d = rw (← z, made) (stop es₀ n₀ u₀ prefix size least limit xs ys ms ss cs vs ws ns ts g n u k l floor f ds d)
 
-    pub loop_out : (h : Engine) (a b times : ℕ) → r ≡ next.Pair h a b times → n < size → (r₂ : Applied) (fs vs₂ ws₂ ns₂ ts₂ : List ℕ)
-        → ApplyDone r₂ h n u k a b times (joined prefix (piece_at vs ws a) (piece_at vs ws b)) ds vs ws ns ts fs vs₂ ws₂ ns₂ ts₂ → r₂ ≡ applied.NoRoom
-        → (vs₃ ws₃ ns₃ ts₃ : List ℕ) → TrainedDone trained.NoRoom w₀ n₀ u₀ prefix size least limit bs xs ys ms ss vs₃ ws₃ ns₃ ts₃
+    pub loop_out : (next : Next) (ds : List ℕ) → NextDone (Some next) g n prefix limit floor (pieces vs ws n) cs ds → n < size → (fs vs₂ ws₂ ns₂ ts₂ : List ℕ) (e : NoRoom)
+        → ApplyDone (Err e) next.engine n u k next.left next.right next.count (joined prefix (piece_at vs ws next.left) (piece_at vs ws next.right)) ds vs ws ns ts fs vs₂ ws₂ ns₂ ts₂
+        → (vs₃ ws₃ ns₃ ts₃ : List ℕ) (r : Result Trained NoRoom) → IsErr r → TrainedDone r w₀ n₀ u₀ prefix size least limit bs xs ys ms ss vs₃ ws₃ ns₃ ts₃
     unfolding TrainedDone
-    loop_out h a b times e less r₂ fs vs₂ ws₂ ns₂ ts₂ done i vs₃ ws₃ ns₃ ts₃ =
-        rw (← z) (out es₀ n₀ u₀ prefix size least limit xs ys ms ss cs vs ws ns ts g n u k l floor f r ds d h a b times e less r₂ fs vs₂ ws₂ ns₂ ts₂ done i)
+    loop_out next ds d less fs vs₂ ws₂ ns₂ ts₂ e done vs₃ ws₃ ns₃ ts₃ (Ok r) i = absurd (cc)
+    loop_out next ds d less fs vs₂ ws₂ ns₂ ts₂ e done vs₃ ws₃ ns₃ ts₃ (Err room) i =
+        rw (← z) (out es₀ n₀ u₀ prefix size least limit xs ys ms ss cs vs ws ns ts g n u k l floor f next ds d less fs vs₂ ws₂ ns₂ ts₂ e done)

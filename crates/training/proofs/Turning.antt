@@ -1,13 +1,13 @@
 -- The merges from some pieces and words on, turn by turn. Assumes nothing.
 use mathlib.Core.Path.{◌≡◌, refl, sym, ap, ◌∙◌}
-use mathlib.Core.Bool.{Bool, true, false, not}
+use Rattle.std.specs.Prelude.{Result, Ok, Err, IsErr, ⊤}
+use Rattle.error.specs.declared.NoRoom.{NoRoom}
 use mathlib.Core.List.{List, [], ◌∷◌, ◌++◌, append-nil, append_assoc, map, flat_map}
 use mathlib.Core.Logic.{◌⊎◌, inl, inr}
 use Prim.Native.Nat.{ℕ, suc, ◌+◌, ◌*◌, ◌<◌, ◌≤◌}
 use native.Mathlib.Omega.{arith}
 use lib.ListN.{length, length-append}
 use lib.Seq.{append_snoc}
-use borrow.Author.Tests.{not-true, not-false}
 use Rattle.runs.specs.Parts.{part, Kept}
 use Rattle.runs.proofs.Parts.{part_none}
 use Rattle.runs.proofs.Frames.{kept_none, kept_then, kept_wide, kept-laid, laid_front, front_more}
@@ -25,10 +25,8 @@ use Rattle.intern.proofs.Many.{length_bytes}
 use Rattle.engine.specs.Engine.{JoinDone}
 use Rattle.engine.specs.declared.Engine.{Engine}
 use Rattle.output.specs.Output.{More, PieceDone, MergeDone}
-use Rattle.output.specs.declared.Appended.{Appended}
-use Rattle.output.specs.declared.Appended.TheVariants as appended
+use Rattle.training.specs.declared.Applied.{Applied}
 use Rattle.training.specs.Training.{ApplyDone, with_merges, Written, TooMuch}
-use Rattle.training.specs.declared.Applied.TheVariants as applied
 
 -- RUNS AND BYTES
 
@@ -44,18 +42,23 @@ bytes_cons p ps = omega (arith, length-append p (piece_bytes ps))
 -- ONE MERGE in the rooms
 
 module _ (g : Engine) (n u k a b times : ℕ) (s cs xs ys ms ss ds vs ws ns ts : List ℕ) where
-  pub apply_full : (r : Appended) → PieceDone r n u s xs ys vs ws → r ≡ appended.NoRoom → ApplyDone applied.NoRoom g n u k a b times s cs xs ys ms ss ds vs ws ns ts
+  pub apply_full : (e : NoRoom) (r : Result Applied NoRoom) → IsErr r → PieceDone (Err e) n u s xs ys vs ws → ApplyDone r g n u k a b times s cs xs ys ms ss ds vs ws ns ts
   unfolding PieceDone ApplyDone
-  apply_full r d q = let l = rw q at d in inl l.2
+  apply_full e (Ok r) i d = absurd (cc)
+  apply_full e (Err f) i d = inl d.2
 
-  pub apply_out : (r : Bool) → MergeDone r k a b times ms ss ns ts → not r ≡ true → ApplyDone applied.NoRoom g n u k a b times s cs xs ys ms ss ds vs ws ns ts
+  pub apply_out : (e : NoRoom) (r : Result Applied NoRoom) → IsErr r → MergeDone (Err e) k a b times ms ss ns ts → ApplyDone r g n u k a b times s cs xs ys ms ss ds vs ws ns ts
   unfolding MergeDone ApplyDone
-  apply_out r d q = let l = rw (not-true r q) at d in inr l.2
+  apply_out e (Ok r) i d = absurd (cc)
+  apply_out e (Err f) i d = inr d.2
 
-  pub apply_done : (r : Appended) (u' : ℕ) → PieceDone r n u s xs ys vs ws → r ≡ appended.At u' → (m : Bool) → MergeDone m k a b times ms ss ns ts → not m ≡ false
-      → (h : Engine) → JoinDone g a b n cs ds h → ApplyDone (applied.Done u' h) g n u k a b times s cs xs ys ms ss ds vs ws ns ts
-  unfolding PieceDone ApplyDone
-  apply_done r u' d q m e f h j = (rw q at d, rw (not-false m f) at e, j)
+  pub apply_done : (v : ℕ) (m : ⊤) → PieceDone (Ok v) n u s xs ys vs ws → MergeDone (Ok m) k a b times ms ss ns ts
+      → (h : Engine) → JoinDone g a b n cs ds h
+      → ApplyDone (Ok (record { filled = record { count = n + 1; used = v }; engine = h })) g n u k a b times s cs xs ys ms ss ds vs ws ns ts
+  unfolding PieceDone MergeDone ApplyDone
+  apply_done v m d e h j = (refl, d, e, j)
+
+pub ruleset apply_rules = (apply_full, apply_out, apply_done)
 
 -- THE LOOP. What stands in the rooms after k merges, where n pieces of u bytes were
 pub record Standing (n u : ℕ) (xs ys ms ss vs ws ns ts : List ℕ) (n' u' k : ℕ) : Type 0 where
@@ -153,7 +156,7 @@ module _ (n u : ℕ) (xs ys ms ss vs ws ns ts : List ℕ) (n' u' k : ℕ) (σ : 
         go l c (inr i) = inr (inr (omega (arith, length-saving_bytes all, σ.savings.long)))
 
     -- the rule's state behind it
-    module _ (vs₂ ws₂ : List ℕ) (u₂ : ℕ) (p : More n' u' m.spelled vs ws vs₂ ws₂ u₂) (ns₂ ts₂ : List ℕ) (g : MergeDone true k m.left m.right m.saved ns ts ns₂ ts₂) where
+    module _ (vs₂ ws₂ : List ℕ) (u₂ : ℕ) (p : More n' u' m.spelled vs ws vs₂ ws₂ u₂) (ns₂ ts₂ : List ℕ) (g : MergeDone (Ok tt) k m.left m.right m.saved ns ts ns₂ ts₂) where
       pub toward_next : Toward (pieces xs ys n) all rest (pieces vs₂ ws₂ (n' + 1)) ns₂ ts₂ (k + 1)
       unfolding MergeDone merge_bytes saving_bytes spell_all flat_map
       toward_next =
@@ -183,7 +186,7 @@ module _ (n u : ℕ) (xs ys ms ss vs ws ns ts : List ℕ) (n' u' k : ℕ) (σ : 
 
 -- the rooms behind it
 module _ (n u : ℕ) (xs ys ms ss vs ws ns ts : List ℕ) (n' u' k : ℕ) (σ : Standing n u xs ys ms ss vs ws ns ts n' u' k)
-    (a b times : ℕ) (s : List ℕ) (vs₂ ws₂ : List ℕ) (u₂ : ℕ) (p : More n' u' s vs ws vs₂ ws₂ u₂) (ns₂ ts₂ : List ℕ) (g : MergeDone true k a b times ns ts ns₂ ts₂) where
+    (a b times : ℕ) (s : List ℕ) (vs₂ ws₂ : List ℕ) (u₂ : ℕ) (p : More n' u' s vs ws vs₂ ws₂ u₂) (ns₂ ts₂ : List ℕ) (g : MergeDone (Ok tt) k a b times ns ts ns₂ ts₂) where
   pub standing_next : Standing n u xs ys ms ss vs₂ ws₂ ns₂ ts₂ (n' + 1) u₂ (k + 1)
   unfolding MergeDone
   standing_next =

@@ -1,6 +1,7 @@
 -- One merge made in the rooms, and all that the rule makes of some pieces and words.
-use Rattle.std.specs.Prelude.{◌≡◌, true, List, ◌++◌, map, ◌⊎◌, ℕ, ◌+◌, ◌-◌, ◌*◌, ◌<◌, ◌≤◌, length}
+use Rattle.std.specs.Prelude.{◌≡◌, Result, Ok, Err, List, ◌++◌, map, ◌⊎◌, ℕ, ◌+◌, ◌-◌, ◌*◌, ◌<◌, ◌≤◌, length}
 use Rattle.runs.specs.Parts.{laid, Kept}
+use Rattle.error.specs.declared.NoRoom.{NoRoom}
 use Rattle.rule.specs.Table.{Task}
 use Rattle.rule.specs.Training.{Merge, train_from}
 use Rattle.rule.specs.Layout.{merge_bytes, saving_bytes}
@@ -13,15 +14,13 @@ use Rattle.engine.specs.Engine.{JoinDone}
 use Rattle.engine.specs.declared.Engine.{Engine}
 use Rattle.output.specs.Output.{More, MergeDone}
 use Rattle.training.specs.declared.Applied.{Applied}
-use Rattle.training.specs.declared.Applied.TheVariants as applied
 use Rattle.training.specs.declared.Trained.{Trained}
-use Rattle.training.specs.declared.Trained.TheVariants as trained
 
 -- ONE MERGE: the piece s behind n others, the k-th merge and its saving, and (a,b) rewritten to n in the words; or which room has no place
-unfoldable pub ApplyDone : Applied → Engine → ℕ → ℕ → ℕ → ℕ → ℕ → ℕ → List ℕ → List ℕ → List ℕ → List ℕ → List ℕ → List ℕ → List ℕ → List ℕ → List ℕ → List ℕ → List ℕ → Type 0
-ApplyDone (applied.Done u' h) g n u k a b times s cs xs ys ms ss ds vs ws ns ts =
-    More n u s xs ys vs ws u' × MergeDone true k a b times ms ss ns ts × JoinDone g a b n cs ds h
-ApplyDone applied.NoRoom g n u k a b times s cs xs ys ms ss ds vs ws ns ts = Lacks n u s xs ys ⊎ ((length ms < k * 8 + 8) ⊎ (length ss < k * 8 + 8))
+unfoldable pub ApplyDone : Result Applied NoRoom → Engine → ℕ → ℕ → ℕ → ℕ → ℕ → ℕ → List ℕ → List ℕ → List ℕ → List ℕ → List ℕ → List ℕ → List ℕ → List ℕ → List ℕ → List ℕ → List ℕ → Type 0
+ApplyDone (Ok r) g n u k a b times s cs xs ys ms ss ds vs ws ns ts =
+    (r.filled.count ≡ n + 1) × More n u s xs ys vs ws r.filled.used × MergeDone (Ok tt) k a b times ms ss ns ts × JoinDone g a b n cs ds r.engine
+ApplyDone (Err _) g n u k a b times s cs xs ys ms ss ds vs ws ns ts = Lacks n u s xs ys ⊎ ((length ms < k * 8 + 8) ⊎ (length ss < k * 8 + 8))
 
 -- a task with these settings: training asks a task for no more
 pub record Settings (t : Task) (prefix : List ℕ) (least limit : ℕ) : Type 0 where
@@ -52,10 +51,10 @@ unfoldable pub TooMuch : List Merge → List (List ℕ) → List ℕ → List �
 TooMuch made ps xs ys ms ss = Exceed (with_merges ps made) xs ys ⊎ ((length ms < length (merge_bytes made)) ⊎ (length ss < length (saving_bytes made)))
 
 -- ALL MERGES of a task with these settings, up to `size` pieces
-unfoldable pub TrainedDone : Trained → WordSet → ℕ → ℕ → List ℕ → ℕ → ℕ → ℕ → List ℕ → List ℕ → List ℕ → List ℕ → List ℕ → List ℕ → List ℕ → List ℕ → List ℕ → Type 0
-TrainedDone (trained.Done n' u' k) w n u prefix size least limit cs xs ys ms ss vs ws ns ts =
+unfoldable pub TrainedDone : Result Trained NoRoom → WordSet → ℕ → ℕ → List ℕ → ℕ → ℕ → ℕ → List ℕ → List ℕ → List ℕ → List ℕ → List ℕ → List ℕ → List ℕ → List ℕ → List ℕ → Type 0
+TrainedDone (Ok r) w n u prefix size least limit cs xs ys ms ss vs ws ns ts =
     (t : Task) → Settings t prefix least limit
-    → Written (train_from t (size - n) (pieces xs ys n) (words_in w cs)) n u xs ys ms ss vs ws ns ts n' u' k
-TrainedDone trained.NoRoom w n u prefix size least limit cs xs ys ms ss vs ws ns ts =
+    → Written (train_from t (size - n) (pieces xs ys n) (words_in w cs)) n u xs ys ms ss vs ws ns ts r.filled.count r.filled.used r.merges
+TrainedDone (Err _) w n u prefix size least limit cs xs ys ms ss vs ws ns ts =
     (t : Task) → Settings t prefix least limit
     → TooMuch (train_from t (size - n) (pieces xs ys n) (words_in w cs)) (pieces xs ys n) xs ys ms ss

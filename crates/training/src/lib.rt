@@ -12,71 +12,74 @@ ghost use Rattle.training.specs.Training.{ApplyDone, TrainedDone};
 
 use choosing::Next;
 use engine::Engine;
-use output::Appended;
+use error::NoRoom;
+use lengths::Pieces;
 use pairs::Pairs;
+use step::Rule;
+use table::Settings;
+use vocab::Filled;
 use word::WordSet;
 
 // The least count that is merged: a minimum of 0 acts as 1.
 fn floor(least: u64) -> u64
     ensures { result ≡ max 1 least }
 {
-    if least < 1 {
-        return 1;
-    }
-    least
+    least.max(1)
 }
 
-// Where the pieces end and the engine is now; or that the merge has no place in an output room.
+// How far the pieces are filled and the engine once a merge is made.
 #[derive(Clone, Copy)]
-pub enum Applied {
-    Done(usize, Engine),
-    NoRoom,
+pub struct Applied {
+    pub filled: Filled,
+    pub engine: Engine,
 }
 
-// Makes (left,right) the piece with the next number, in the output rooms and in the words.
+// Makes a pair the piece with the next number, in the output rooms and in the words, as the k-th merge.
+// Stays: the rooms apart, as in `train_words`.
+#[tactic(auto, using(crate::proofs::Turning::apply_rules))]
 fn apply(
     work: &mut [u8],
-    g: Engine,
+    next: Next,
     pieces: &mut [u8],
     ends: &mut [u8],
     merges: &mut [u8],
     savings: &mut [u8],
-    count: usize,
-    used: usize,
+    filled: Filled,
     k: usize,
-    left: u32,
-    right: u32,
-    times: u64,
     prefix: &[u8],
-) -> Applied
-    requires held { Held count used pieces.old ends.old }
-    requires can_join { CanJoin g left right count (cells work.old) }
-    ensures { ApplyDone result g count used k left right times (joined prefix.now (piece_at pieces.old ends.old left) (piece_at pieces.old ends.old right))
+) -> Result<Applied, NoRoom>
+    requires held { Held filled.count filled.used pieces.old ends.old }
+    requires can_join { CanJoin next.engine next.left next.right filled.count (cells work.old) }
+    ensures { ApplyDone result next.engine filled.count filled.used k next.left next.right next.count
+        (joined prefix.now (piece_at pieces.old ends.old next.left) (piece_at pieces.old ends.old next.right))
         (cells work.old) pieces.old ends.old merges.old savings.old
         (cells work.new) pieces.new ends.new merges.new savings.new }
 {
-    let r = output::append_piece(pieces, ends, count, used, left, right, prefix);
-    match r {
-        Appended::NoRoom => Applied::NoRoom,
-        Appended::At(end) => {
-            if !output::append_merge(merges, savings, k, left, right, times) {
-                return Applied::NoRoom;
-            }
-            let h = engine::join(work, g, left, right, count as u32);
-            Applied::Done(end, h)
-        }
-    }
+    let end = output::append_piece(pieces, ends, filled, next.left, next.right, prefix)?;
+    output::append_merge(merges, savings, k, next.left, next.right, next.count)?;
+    let rule = Rule {
+        a: next.left,
+        b: next.right,
+        x: filled.count as u32,
+    };
+    let engine = engine::join(work, next.engine, rule);
+    let filled = Filled {
+        count: filled.count + 1,
+        used: end,
+    };
+    Ok(Applied { filled, engine })
 }
 
-// How many pieces, bytes and merges there are; or that the full answer exceeds an output room.
+// How far the pieces are filled, and how many merges there are.
 #[derive(Clone, Copy)]
-pub enum Trained {
-    Done(usize, usize, usize),
-    NoRoom,
+pub struct Trained {
+    pub filled: Filled,
+    pub merges: usize,
 }
 
-// Trains up to `size` pieces, and no pair that counts less than `least` or is longer than `limit`.
-// What is known of the pairs is kept at p.
+// Trains up to the size that is asked for, and no pair that counts less than the minimum or makes a piece over the
+// limit; or tells that the full answer exceeds an output room. What is known of the pairs is kept at p.
+// Stays: the rooms apart, as C lends them: what is left in each is said by itself (`TrainedDone`).
 pub fn train_words(
     work: &mut [u8],
     set: WordSet,
@@ -85,44 +88,37 @@ pub fn train_words(
     ends: &mut [u8],
     merges: &mut [u8],
     savings: &mut [u8],
-    count: usize,
-    used: usize,
+    filled: Filled,
     prefix: &[u8],
-    size: u64,
-    least: u64,
-    limit: u64,
-) -> Trained
-    requires can_start { CanStart set p count (cells work.old) }
-    requires held { Held count used pieces.old ends.old }
-    requires count_le_size { (count ≤ size) × (size ≤ 16777216) }
-    ensures { TrainedDone result set count used prefix.now size least limit
+    settings: Settings,
+) -> Result<Trained, NoRoom>
+    requires can_start { CanStart set p filled.count (cells work.old) }
+    requires held { Held filled.count filled.used pieces.old ends.old }
+    requires count_le_size { (filled.count ≤ settings.vocab_size) × (settings.vocab_size ≤ 16777216) }
+    ensures { TrainedDone result set filled.count filled.used prefix.now settings.vocab_size settings.min_frequency
+        settings.max_piece_length
         (cells work.old) pieces.old ends.old merges.old savings.old
         pieces.new ends.new merges.new savings.new }
 {
-    let enough = floor(least);
-    let mut g = engine::start(work, set, p, count as u32);
-    let mut n = count;
-    let mut u = used;
-    let mut k = 0;
-    while (n as u64) < size {
-        let c = choosing::next_merge(work, g, pieces, ends, n, u, prefix, limit, enough);
-        match c {
-            Next::Nothing => return Trained::Done(n, u, k),
-            Next::Pair(h, left, right, times) => {
-                let a = apply(
-                    work, h, pieces, ends, merges, savings, n, u, k, left, right, times, prefix,
-                );
-                match a {
-                    Applied::Done(end, d) => {
-                        g = d;
-                        u = end;
-                        n += 1;
-                        k += 1;
-                    }
-                    Applied::NoRoom => return Trained::NoRoom,
-                }
-            }
-        }
+    let enough = floor(settings.min_frequency);
+    let limit = settings.max_piece_length;
+    let mut engine = engine::start(work, set, p, filled.count as u32);
+    let mut now = filled;
+    for k in 0..settings.vocab_size as usize - filled.count {
+        let there = Pieces {
+            bytes: pieces,
+            ends,
+            filled: now,
+        };
+        let Some(next) = choosing::next_merge(work, engine, there, prefix, limit, enough) else {
+            break;
+        };
+        let a = apply(work, next, pieces, ends, merges, savings, now, k, prefix)?;
+        engine = a.engine;
+        now = a.filled;
     }
-    Trained::Done(n, u, k)
+    Ok(Trained {
+        filled: now,
+        merges: now.count - filled.count,
+    })
 }

@@ -15,8 +15,8 @@ use Rattle.rule.specs.Shapes.{shaped}
 use Rattle.rule.specs.Layout.{piece_shape, piece_count, piece_start, piece_length, piece_at}
 use Rattle.rule.specs.Refusals.{Verdict, says}
 use Rattle.rule.specs.Outcome.{look_up}
-use Rattle.vocab.specs.declared.Lookup.{Lookup}
-use Rattle.vocab.specs.declared.Lookup.TheVariants.{At, Refused}
+use Rattle.std.specs.Prelude.{Result, Ok, Err}
+use Rattle.vocab.specs.declared.Place.{Place}
 use Rattle.error.specs.declared.PieceError.{PieceError}
 use Rattle.error.specs.declared.PieceError.TheVariants.{BadShape, NoSuchId}
 use Rattle.error.specs.Answers.{piece_verdict}
@@ -34,17 +34,20 @@ start_later ends (suc n) r h e = let k : suc n - 1 ≡ n = omega arith in rw k a
 
 -- THE ANSWERS
 
+abbrev place : ℕ → ℕ → Place
+place s n = record { start = s; length = n }
+
 module _ (pieces ends : List ℕ) (number : ℕ) (b : Bool) (e : b ≡ shaped pieces ends) where
-  pub look_misshapen : not b ≡ true → Looked pieces ends number (Refused BadShape)
+  pub look_misshapen : not b ≡ true → Looked pieces ends number (Err BadShape)
   unfolding lookup_verdict piece_verdict Within look_up piece_shape
   look_misshapen t = record { is = rw (← e, not-true b t); inside = tt }
 
-  pub look-many : 16777216 < length ends / 4 → Looked pieces ends number (Refused BadShape)
+  pub look-many : 16777216 < length ends / 4 → Looked pieces ends number (Err BadShape)
   unfolding lookup_verdict piece_verdict Within look_up piece_count
   look-many h = record { is = rw (lt-ltb 16777216 (length ends / 4) h, or-true); inside = tt }
 
   module _ (t : not b ≡ false) (few : length ends / 4 ≤ 16777216) where
-    pub look_past : length ends / 4 ≤ number → Looked pieces ends number (Refused NoSuchId)
+    pub look_past : length ends / 4 ≤ number → Looked pieces ends number (Err NoSuchId)
     unfolding lookup_verdict piece_verdict Within look_up piece_shape piece_count
     look_past h = record { is = rw (← e, not-false b t, le-ltb 16777216 (length ends / 4) few, le-leb (length ends / 4) number h); inside = tt }
 
@@ -56,7 +59,7 @@ module _ (pieces ends : List ℕ) (number : ℕ) (b : Bool) (e : b ≡ shaped pi
       pub look_up_lem : start ≤ to
       look_up_lem = risen.0
 
-      pub look_at : Looked pieces ends number (At start (to - start))
+      pub look_at : Looked pieces ends number (Ok (place start (to - start)))
       unfolding lookup_verdict Within look_up piece_shape piece_count piece_length nth
       look_at = record {
         is = rw (← e, not-false b t, le-ltb 16777216 (length ends / 4) few, lt-leb (length ends / 4) number h, ← s, ← q);
@@ -70,30 +73,39 @@ unfolding piece_verdict
 refused BadShape = omega arith
 refused NoSuchId = omega arith
 
-pub verdict_single : (r q : Lookup) → lookup_verdict r ≡ lookup_verdict q → r ≡ q
-unfolding lookup_verdict
-verdict_single (At s n) (At t m) e = let g : s ∷ n ∷ [] ≡ t ∷ m ∷ [] = ap (λ (v : Verdict). v.gives) e in cc
-verdict_single (At s n) (Refused f) e = absurd (omega (arith, refused f, ap (λ (v : Verdict). v.number) e))
-verdict_single (Refused f) (At t m) e = absurd (omega (arith, refused f, ap (λ (v : Verdict). v.number) e))
-verdict_single (Refused f) (Refused g) e = ap Refused (piece_one_to_one f g e)
+same_place : {p q : Place} → p.start ≡ q.start → p.length ≡ q.length → p ≡ q
+same_place {p = p} {q = q} s n = ap (λ (a : ℕ). place a p.length) s ∙ ap (λ (b : ℕ). place q.start b) n
 
-pub looked_single : {pieces ends : List ℕ} {number : ℕ} {r q : Lookup} → Looked pieces ends number r → Looked pieces ends number q → r ≡ q
+pub verdict_single : (r q : Result Place PieceError) → lookup_verdict r ≡ lookup_verdict q → r ≡ q
+unfolding lookup_verdict
+verdict_single (Ok p) (Ok q) e =
+    let g : p.start ∷ p.length ∷ [] ≡ q.start ∷ q.length ∷ [] = ap (λ (v : Verdict). v.gives) e in
+    let s : p.start ≡ q.start = cc in
+    let n : p.length ≡ q.length = cc in
+    ap Ok (same_place s n)
+verdict_single (Ok p) (Err f) e = absurd (omega (arith, refused f, ap (λ (v : Verdict). v.number) e))
+verdict_single (Err f) (Ok q) e = absurd (omega (arith, refused f, ap (λ (v : Verdict). v.number) e))
+verdict_single (Err f) (Err g) e = ap Err (piece_one_to_one f g e)
+
+pub looked_single : {pieces ends : List ℕ} {number : ℕ} {r q : Result Place PieceError} → Looked pieces ends number r → Looked pieces ends number q → r ≡ q
 looked_single {r = r} {q = q} a b = verdict_single r q (a.is ∙ sym b.is)
 
 -- THE PART THAT AN ANSWER NAMES, as the code lends it
 
-pub part_inside : (what : Lookup) (start n bytes : ℕ) → what ≡ At start n → Within what bytes → start + n ≤ bytes
+pub part_inside : (what : Result Place PieceError) (p : Place) (bytes : ℕ) → what ≡ Ok p → Within what bytes → p.start + p.length ≤ bytes
 unfolding Within
-part_inside what start n bytes e w = rw e at w
+part_inside what p bytes e w = rw e at w
 
-module _ (pieces : List ℕ) (what : Lookup) where
-  pub part_found : (start n : ℕ) → what ≡ At start n → take (start + n - start) (drop start pieces) ≡ part_of pieces what
+module _ (pieces : List ℕ) (what : Result Place PieceError) where
+  pub part_found : (p : Place) → what ≡ Ok p → take (p.start + p.length - p.start) (drop p.start pieces) ≡ part_of pieces what
   unfolding part_of
-  part_found start n e = rw e (part_lent_on start n pieces)
+  part_found p e = rw e (part_lent_on p.start p.length pieces)
 
-  pub part_refused : (f : PieceError) → what ≡ Refused f → [] ≡ part_of pieces what
+  pub part_refused : (f : PieceError) → what ≡ Err f → [] ≡ part_of pieces what
   unfolding part_of
   part_refused f e = rw e
+
+pub ruleset part_rules = (part_inside, part_found, part_refused)
 
 -- THE PIECE THAT A NUMBER HAS is the part that its answer names
 
@@ -111,16 +123,16 @@ module _ (pieces ends : List ℕ) (number : ℕ) where
       go false true e = absurd (omega arith)
       go false false e = refl
 
-  named_piece : (what : Lookup) → Looked pieces ends number what → part_of pieces what ≡ piece_given pieces ends number
+  named_piece : (what : Result Place PieceError) → Looked pieces ends number what → part_of pieces what ≡ piece_given pieces ends number
   unfolding lookup_verdict piece_verdict part_of piece_given piece_at
-  named_piece (At start n) l =
+  named_piece (Ok p) l =
       let z : (look_up pieces ends number).number ≡ 0 = ap (λ (v : Verdict). v.number) (sym l.is) in
-      let g : start ∷ n ∷ [] ≡ piece_start ends number ∷ piece_length ends number ∷ [] = ap (λ (v : Verdict). v.gives) (l.is ∙ found_gives z) in
-      let s : start ≡ piece_start ends number = cc in
-      let m : n ≡ piece_length ends number = cc in
+      let g : p.start ∷ p.length ∷ [] ≡ piece_start ends number ∷ piece_length ends number ∷ [] = ap (λ (v : Verdict). v.gives) (l.is ∙ found_gives z) in
+      let s : p.start ≡ piece_start ends number = cc in
+      let m : p.length ≡ piece_length ends number = cc in
       rw (z, s, m)
-  named_piece (Refused BadShape) l = rw (← l.is)
-  named_piece (Refused NoSuchId) l = rw (← l.is)
+  named_piece (Err BadShape) l = rw (← l.is)
+  named_piece (Err NoSuchId) l = rw (← l.is)
 
-  pub part_piece : (what : Lookup) (r : List ℕ) → Looked pieces ends number what → r ≡ part_of pieces what → r ≡ piece_given pieces ends number
+  pub part_piece : (what : Result Place PieceError) (r : List ℕ) → Looked pieces ends number what → r ≡ part_of pieces what → r ≡ piece_given pieces ends number
   part_piece what r l e = e ∙ named_piece what l

@@ -1,32 +1,32 @@
 -- What a lookup answers: document 01's verdict of each case, and the part of the pieces that it names.
-use Rattle.std.specs.Prelude.{◌≡◌, cond, List, [], ◌∷◌, ℕ, ◌+◌, ◌≤◌, eqb, length}
+use Rattle.std.specs.Prelude.{◌≡◌, Result, Ok, Err, cond, List, [], ◌∷◌, ℕ, ◌+◌, ◌≤◌, eqb, length}
 use Rattle.runs.specs.Parts.{part}
 use Rattle.rule.specs.Layout.{piece_at}
 use Rattle.rule.specs.Refusals.{Verdict, says}
 use Rattle.rule.specs.Outcome.{look_up}
 use Rattle.error.specs.Answers.{piece_verdict}
-use Rattle.vocab.specs.declared.Lookup.{Lookup}
-use Rattle.vocab.specs.declared.Lookup.TheVariants.{At, Refused}
+use Rattle.error.specs.declared.PieceError.{PieceError}
+use Rattle.vocab.specs.declared.Place.{Place}
 
 -- "The reader's gives start and length"; a refusal is as `error` has it
-unfoldable pub lookup_verdict : Lookup → Verdict
-lookup_verdict (At start n) = says 0 (start ∷ n ∷ [])
-lookup_verdict (Refused e) = piece_verdict e
+unfoldable pub lookup_verdict : Result Place PieceError → Verdict
+lookup_verdict (Ok place) = says 0 (place.start ∷ place.length ∷ [])
+lookup_verdict (Err e) = piece_verdict e
 
 -- what is found lies within so many bytes
-unfoldable pub Within : Lookup → ℕ → Type 0
-Within (At start n) bytes = start + n ≤ bytes
-Within (Refused e) bytes = Unit {0}
+unfoldable pub Within : Result Place PieceError → ℕ → Type 0
+Within (Ok place) bytes = place.start + place.length ≤ bytes
+Within (Err e) bytes = Unit {0}
 
 -- an answer r to the question for a number
-pub record Looked (pieces ends : List ℕ) (number : ℕ) (r : Lookup) : Type 0 where
+pub record Looked (pieces ends : List ℕ) (number : ℕ) (r : Result Place PieceError) : Type 0 where
   pub is : lookup_verdict r ≡ look_up pieces ends number
   pub inside : Within r (length pieces)
 
 -- "the part of the lent piece bytes between two ends, empty on a refusal"
-unfoldable pub part_of : List ℕ → Lookup → List ℕ
-part_of pieces (At start n) = part start n pieces
-part_of pieces (Refused e) = []
+unfoldable pub part_of : List ℕ → Result Place PieceError → List ℕ
+part_of pieces (Ok place) = part place.start place.length pieces
+part_of pieces (Err e) = []
 
 -- the piece that a number has: "For a refusal that part is empty"
 unfoldable pub piece_given : List ℕ → List ℕ → ℕ → List ℕ

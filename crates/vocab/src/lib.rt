@@ -16,7 +16,16 @@ use error::PieceError;
 // More ends than this are refused.
 const MOST_ENDS: usize = 16777216;
 
+// How far the two runs of a vocabulary are filled: so many pieces, which have so many bytes.
+#[derive(Clone, Copy)]
+pub struct Filled {
+    pub count: usize,
+    pub used: usize,
+}
+
 // The i-th end.
+// Stays: who goes over parts keeps the last end: a walk with a closure would say more than the loop.
+#[tactic(auto, using(crate::proofs::Places::number_load))]
 pub fn end_at(ends: &[u8], i: usize) -> usize
     requires { i < length ends.now / 4 }
     ensures { result ≡ nth (numbers 4 ends.now) i }
@@ -25,6 +34,7 @@ pub fn end_at(ends: &[u8], i: usize) -> usize
 }
 
 // Where piece n starts: at the end before it, the first at 0.
+#[tactic(auto, using(crate::proofs::Reading::start_later, rule::proofs::Reading::start_first))]
 pub fn piece_start(ends: &[u8], n: usize) -> usize
     requires { n * 4 ≤ length ends.now }
     ensures { result ≡ piece_start ends.now n }
@@ -39,22 +49,20 @@ pub fn piece_start(ends: &[u8], n: usize) -> usize
 fn rises(ends: &[u8], bytes: usize) -> bool
     ensures { result ≡ rise_to bytes 0 (numbers 4 ends.now) }
 {
-    let count = ends.len() / 4;
-    let mut i = 0;
     let mut last = 0;
-    while i < count {
+    for i in 0..ends.len() / 4 {
         let end = end_at(ends, i);
         if end < last {
             return false;
         }
         last = end;
-        i += 1;
     }
     last == bytes
 }
 
 // Tells whether bytes and their ends have the shape of a table: whole ends that rise to the last
 // byte.
+#[tactic(auto, using(crate::proofs::Shaped::shaped_not, crate::proofs::Shaped::shaped_by))]
 pub fn is_shaped(bytes: &[u8], ends: &[u8]) -> bool
     ensures { result ≡ shaped bytes.now ends.now }
 {
@@ -64,47 +72,49 @@ pub fn is_shaped(bytes: &[u8], ends: &[u8]) -> bool
     rises(ends, bytes.len())
 }
 
-// Where a piece stands, or why there is none.
+// Where a piece stands among the bytes of all pieces.
 #[derive(Clone, Copy)]
-pub enum Lookup {
-    At { start: usize, length: usize },
-    Refused(PieceError),
+pub struct Place {
+    pub start: usize,
+    pub length: usize,
 }
 
-// Looks a piece up by its number.
-pub fn look(pieces: &[u8], ends: &[u8], number: u64) -> Lookup
+// Looks a piece up by its number: where it stands, or why there is none.
+pub fn look(pieces: &[u8], ends: &[u8], number: u64) -> Result<Place, PieceError>
     ensures { Looked pieces.now ends.now number result }
 {
     if !is_shaped(pieces, ends) {
-        return Lookup::Refused(PieceError::BadShape);
+        return Err(PieceError::BadShape);
     }
     let count = ends.len() / 4;
     if MOST_ENDS < count {
-        return Lookup::Refused(PieceError::BadShape);
+        return Err(PieceError::BadShape);
     }
     if count as u64 <= number {
-        return Lookup::Refused(PieceError::NoSuchId);
+        return Err(PieceError::NoSuchId);
     }
     let n = number as usize;
     let start = piece_start(ends, n);
     let end = end_at(ends, n);
     let length = end - start;
-    Lookup::At { start, length }
+    Ok(Place { start, length })
 }
 
 // The part of the pieces that an answer names: empty where it names none.
-fn part<'a>(pieces: &'a [u8], what: Lookup) -> &'a [u8]
+#[tactic(auto, using(crate::proofs::Reading::part_rules))]
+fn part<'a>(pieces: &'a [u8], what: Result<Place, PieceError>) -> &'a [u8]
     requires { Within what (length pieces.now) }
     ensures { result.now ≡ part_of pieces.now what }
 {
     match what {
-        Lookup::At { start, length } => &pieces[start..start + length],
-        Lookup::Refused(_) => &pieces[0..0],
+        Ok(place) => &pieces[place.start..place.start + place.length],
+        Err(_) => &[],
     }
 }
 
 // The piece that has a number, as part of the caller's own bytes: empty where there is none, which
 // `look` tells from an empty piece.
+// Stays: no Option, since the clause promises the empty part on a refusal (`piece_given`).
 pub fn piece<'a, 'b>(pieces: &'a [u8], ends: &'b [u8], number: u64) -> &'a [u8]
     ensures { result.now ≡ piece_given pieces.now ends.now number }
 {

@@ -18,6 +18,7 @@ pub struct WordSet {
 }
 
 // The cell of a word's first symbol, and how many symbols it has.
+// Stays: a struct beside vocab::Place: this one is of cells, that one of bytes.
 #[derive(Clone, Copy)]
 pub struct Span {
     pub start: usize,
@@ -25,6 +26,7 @@ pub struct Span {
 }
 
 // The symbol in a cell.
+#[tactic(auto, using(crate::proofs::Views::symbol_of))]
 pub fn symbol(room: &[u8], at: usize) -> u32
     requires { at < length (cells room.now) }
     ensures { result ≡ symbol_in (nth (cells room.now) at) }
@@ -33,6 +35,7 @@ pub fn symbol(room: &[u8], at: usize) -> u32
 }
 
 // The cell that word k begins at.
+// Stays: `Words` in each clause: it ties the numbers of a set to the cells of a lent room.
 pub fn place(room: &[u8], w: WordSet, k: usize) -> usize
     requires words { Words w (cells room.now) }
     requires k_lt_count { k < w.count }
@@ -56,6 +59,7 @@ pub fn word(room: &[u8], w: WordSet, k: usize) -> Span
 }
 
 // The frequency of word k.
+#[tactic(auto, using(crate::proofs::Sets::frequency_read))]
 pub fn frequency(room: &[u8], w: WordSet, k: usize) -> u64
     requires words { Words w (cells room.now) }
     requires k_lt_count { k < w.count }

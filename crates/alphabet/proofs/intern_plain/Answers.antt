@@ -5,8 +5,8 @@ use Rattle.alphabet.proofs.intern_plain.Goals as goal
 
 ruleset laws = (plain, one_done, one_out, rules)
 
-pub returns-in-At : goal.returns-in-At
-returns-in-At c = search laws
+pub returns-in_err-interned : goal.returns-in_err-interned
+returns-in_err-interned c = search laws
 
-pub returns-in-NoRoom : goal.returns-in-NoRoom
-returns-in-NoRoom c = search laws
+pub returns : goal.returns
+returns c = search laws

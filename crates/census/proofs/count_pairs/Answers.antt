@@ -1,5 +1,4 @@
 use borrow.Author.Rules.{rules}
-use Prim.Native.Nat.{◌-◌}
 use Rattle.census.proofs.Words.{count_start, word_can, word_turn, count_end}
 use Rattle.census.proofs.count_pairs.Goals as goal
 

@@ -1,15 +1,12 @@
 -- `choosing::block` meets its contract: a pair that counts has a record.
-use borrow.Author.Rules.{rules}
-use Rattle.choosing.proofs.Small.{counts_found, counts_has, blocked-set}
+use Rattle.choosing.proofs.Small.{counts_found, counts_has}
 use Rattle.choosing.proofs.block.Goals as goal
 
-ruleset laws = (counts_found, counts_has, blocked-set, rules)
-
-pub overflow_sub-r : goal.overflow_sub-r
-overflow_sub-r c = search laws
+pub unwrap-requires : goal.unwrap-requires
+unwrap-requires c = counts_found _ _ _ c.requires _ c.find.ensures
 
 pub marks-requires : goal.marks-requires
-marks-requires c = search laws
+marks-requires c = counts_has _ _ _ c.requires _ c.find.ensures _ c.unwrap.ensures
 
 pub set_marks-requires : goal.set_marks-requires
-set_marks-requires c = search laws
+set_marks-requires c = counts_has _ _ _ c.requires _ c.find.ensures _ c.unwrap.ensures

@@ -10,8 +10,8 @@ loop-h-smaller c = search laws
 pub loop-h-preserved : goal.loop-h-preserved
 loop-h-preserved c = search laws
 
-pub returns-in-Answer : goal.returns-in-Answer
-returns-in-Answer c = search laws
+pub returns-in-Break : goal.returns-in-Break
+returns-in-Break c = search laws
 
 pub returns : goal.returns
 returns c = search laws

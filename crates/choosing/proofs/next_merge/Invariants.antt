@@ -11,8 +11,8 @@ use Rattle.choosing.proofs.next_merge.Given as goal
 abbrev pub invariant-loop-h : goal.invariant-loop-h
 invariant-loop-h l = (length l.room ≡ length l.initial.room)
     × (1 ≤ l.least)
-    × Held l.count l.used l.pieces l.ends
-    × Run l.initial.h l.count l.prefix l.limit (rooms.pieces l.pieces l.ends l.count) (cells l.initial.room) l.h (cells l.room)
+    × Held l.p.filled.count l.p.filled.used l.p.bytes.now l.p.ends.now
+    × Run l.initial.h l.p.filled.count l.prefix l.limit (rooms.pieces l.p.bytes.now l.p.ends.now l.p.filled.count) (cells l.initial.room) l.h (cells l.room)
 
 abbrev pub decreases-loop-h : goal.decreases-loop-h
 decreases-loop-h l = l.h.turns

@@ -17,7 +17,7 @@ pub returns-then-not-line_fits : goal.returns-then-not-line_fits
 returns-then-not-line_fits c = search laws
 
 pub loop-i-preserved : goal.loop-i-preserved
-loop-i-preserved c = (omega arith, text_turn _ _ _ _ _ _ _ _ c.left_of.ensures c.piece-left.ensures c.right_of.ensures c.piece-right.ensures _ _ _ c.loop-i.invariant.1 c.loop-i-test.true _ c.line_fits.ensures (ap not c.if-not-line_fits.false))
+loop-i-preserved c = text_turn _ _ _ _ _ _ _ _ c.pair_of-l.ensures.left c.piece-left.ensures c.pair_of-l.ensures.right c.piece-right.ensures _ _ _ c.loop-i.invariant (omega arith) _ c.line_fits.ensures (ap not c.if-not-line_fits.false)
 
 pub returns : goal.returns
 returns c = search laws

@@ -5,11 +5,11 @@ use Rattle.counting.proofs.count_in.Goals as goal
 
 ruleset laws = (hits_start, hits-turn, hits_end, cells_small, rules)
 
-pub loop-left-init : goal.loop-left-init
-loop-left-init c = search laws
+pub loop-i-init : goal.loop-i-init
+loop-i-init c = search laws
 
-pub loop-left-preserved : goal.loop-left-preserved
-loop-left-preserved c = search laws
+pub loop-i-preserved : goal.loop-i-preserved
+loop-i-preserved c = search laws
 
 pub returns : goal.returns
 returns c = search laws

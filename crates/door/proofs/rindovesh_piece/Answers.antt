@@ -8,8 +8,8 @@ ruleset laws = (piece_short, piece_found, piece_refused, rules)
 pub returns-then-answer-lt64 : goal.returns-then-answer-lt64
 returns-then-answer-lt64 c = search laws
 
-pub returns-in-At : goal.returns-in-At
-returns-in-At c = search laws
+pub returns-in-Ok : goal.returns-in-Ok
+returns-in-Ok c = search laws
 
-pub returns-in-Refused : goal.returns-in-Refused
-returns-in-Refused c = search laws
+pub returns-in-Err : goal.returns-in-Err
+returns-in-Err c = search laws

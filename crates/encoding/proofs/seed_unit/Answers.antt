@@ -5,17 +5,19 @@ use Rattle.encoding.proofs.seed_unit.Goals as goal
 
 ruleset laws = (unit_number, unit_set, unit_room, unit_done, unit_out, rules)
 
-pub overflow_cast-k : goal.overflow_cast-k
-overflow_cast-k c = search laws
+pub returns-in_err-interned : goal.returns-in_err-interned
+returns-in_err-interned c = search laws
+
+pub overflow_cast-interned : goal.overflow_cast-interned
+overflow_cast-interned c =
+    let h = unit_number _ _ _ _ _ _ _ _ _ _ _ _ _ c.requires.can_intern c.requires.words.0 c.requires.words.1 _ c.in_ok-interned.ensures in
+    search rules
 
 pub add-requires-clause-words : goal.add-requires-clause-words
-add-requires-clause-words c = search laws
+add-requires-clause-words c = unit_set _ _ _ _ _ _ _ _ _ _ _ _ _ c.requires.can_intern c.requires.words.0 c.requires.words.1 _ c.in_ok-interned.ensures
 
 pub add-requires-clause-n_in_bounds : goal.add-requires-clause-n_in_bounds
-add-requires-clause-n_in_bounds c = search laws
+add-requires-clause-n_in_bounds c = unit_room _ _ _ _ _ _ _ _ _ _ _ _ _ c.requires.can_intern c.requires.words.0 c.requires.words.1 _ c.in_ok-interned.ensures
 
-pub returns-in-At : goal.returns-in-At
-returns-in-At c = search laws
-
-pub returns-in-NoRoom : goal.returns-in-NoRoom
-returns-in-NoRoom c = search laws
+pub returns : goal.returns
+returns c = search laws

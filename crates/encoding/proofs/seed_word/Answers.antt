@@ -1,32 +1,43 @@
+-- `encoding::seed_word` meets its contract: each turn interns one unit with the marks of its place.
 use borrow.Author.Rules.{rules}
 use native.Mathlib.Omega.{arith}
-use Rattle.encoding.proofs.Wording.{wording_start, wording_can, wording_set, place_room, place_next, place-out, place_end}
+use mathlib.Core.Path.{refl}
+use Rattle.encoding.proofs.Wording.{word_start, wording_can, wording_set, place_room, place_next, place-out, place_end}
 use Rattle.encoding.proofs.seed_word.Goals as goal
 
-ruleset laws = (wording_start, wording_can, wording_set, place_room, place_next, place-out, place_end, rules)
+ruleset laws = (word_start, wording_can, wording_set, place_room, place_next, place-out, place_end, rules)
 
 pub loop-at-init : goal.loop-at-init
 loop-at-init c = search laws
 
-pub seed_unit-r-requires-clause-can_intern : goal.seed_unit-r-requires-clause-can_intern
-seed_unit-r-requires-clause-can_intern c = search laws
+pub seed_unit-requires-clause-can_intern : goal.seed_unit-requires-clause-can_intern
+seed_unit-requires-clause-can_intern c = search laws
 
-pub seed_unit-r-requires-clause-words : goal.seed_unit-r-requires-clause-words
-seed_unit-r-requires-clause-words c = search laws
-
-pub loop-at-preserved : goal.loop-at-preserved
-loop-at-preserved c = let l = c.loop-at in
-    let x = c.next_unit-end.ensures in (
-      omega (arith, x.on),
-      x.inside,
-      l.invariant.2,
-      omega (arith, x.on),
-      omega (arith, c.seed_unit-r.auto, l.invariant.4),
-      place_next _ _ _ _ _ _ _ _ _ _ _ _ _ _ _ _ _ _ _ _ _ l.invariant.5 c.loop-at-test.true l.invariant.2 _ x _ _ c.side-lead.ensures.0 c.side-tail.ensures.0 _ _ _ _ c.seed_unit-r.ensures _ _ c.in-Done.is,
+pub seed_unit-requires-clause-words : goal.seed_unit-requires-clause-words
+seed_unit-requires-clause-words c =
+    let l = c.loop-at in (
+      wording_set _ _ _ _ _ _ _ _ _ _ _ _ _ _ _ _ _ _ l.invariant.3,
+      place_room _ _ _ _ _ _ _ _ _ _ _ _ _ _ _ _ _ _ _ l.so_far l.invariant.3 c.loop-at-test.true (omega arith) _ c.next_unit-end.ensures,
     )
 
-pub returns-in-NoRoom : goal.returns-in-NoRoom
-returns-in-NoRoom c = search laws
+pub returns-in_err-so_far : goal.returns-in_err-so_far
+returns-in_err-so_far c =
+    let l = c.loop-at in
+    place-out _ _ _ _ _ _ _ _ _ _ _ _ _ _ _ _ _ _ _ l.so_far l.invariant.3 c.loop-at-test.true (omega arith) _ c.next_unit-end.ensures
+    _ _ c.side-prefix.ensures c.side-suffix.ensures _ _ _ _ c.in_err-so_far.ensures _ c.from_residual.ensures.0
+
+pub loop-at-preserved : goal.loop-at-preserved
+loop-at-preserved c =
+    let l = c.loop-at in
+    let x = c.next_unit-end.ensures in (
+      x.inside,
+      omega (arith, x.on),
+      omega (arith, c.seed_unit.auto, l.invariant.2),
+      place_next _ _ _ _ _ _ _ _ _ _ _ _ _ _ _ _ _ _ _ l.so_far l.invariant.3 c.loop-at-test.true (omega arith) _ x
+          _ _ c.side-prefix.ensures c.side-suffix.ensures _ _ _ _ c.in_ok-so_far.ensures,
+    )
 
 pub returns : goal.returns
-returns c = search laws
+returns c =
+    let l = c.loop-at in
+    place_end _ _ _ _ _ _ _ _ _ _ _ _ _ _ _ _ _ _ _ l.so_far l.invariant.3 c.loop-at-test.false _ refl refl refl

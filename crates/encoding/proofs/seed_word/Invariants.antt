@@ -8,12 +8,11 @@ use Rattle.encoding.proofs.Wording.{Wording}
 use Rattle.encoding.proofs.seed_word.Given as goal
 
 abbrev pub invariant-loop-at : goal.invariant-loop-at
-invariant-loop-at l = (l.from ≤ l.at)
-    × (l.at ≤ l.to)
-    × (l.to ≤ length l.words)
+invariant-loop-at l = (l.at ≤ length l.word)
     × (l.n ≤ l.at)
     × (length l.room ≡ length l.initial.room)
-    × Wording l.w l.base l.cap l.count l.used l.prefix l.suffix (units_by l.whole (part l.from (l.to - l.from) l.words)) (units_by l.whole (part l.at (l.to - l.at) l.words)) l.initial.room l.initial.pieces l.initial.ends l.room l.pieces l.ends l.n l.m l.u
+    × Wording l.w l.ring.base l.ring.cap l.fn.filled.count l.fn.filled.used l.t.prefix.now l.t.suffix.now (units_by l.whole l.word) (units_by l.whole (part l.at (length l.word - l.at) l.word))
+    l.initial.room l.initial.pieces l.initial.ends l.room l.pieces l.ends l.n l.so_far.count l.so_far.used
 
 abbrev pub decreases-loop-at : goal.decreases-loop-at
-decreases-loop-at l = l.to - l.at
+decreases-loop-at l = length l.word - l.at

@@ -1,7 +1,7 @@
 -- `encoding::seed_words` meets its contract: the words from the k-th on are still to come.
 use mathlib.Core.Path.{◌≡◌}
 use mathlib.Core.Bool.{true}
-use Prim.Native.Nat.{◌-◌, ◌/◌, ◌^◌, ◌≤◌, ◌<◌}
+use Prim.Native.Nat.{◌/◌, ◌≤◌}
 use lib.ListN.{length}
 use Rattle.numbers.specs.Little.{numbers}
 use Rattle.rule.specs.Shapes.{rise_to}
@@ -12,14 +12,11 @@ use Rattle.encoding.proofs.Words.{words_from}
 use Rattle.encoding.proofs.seed_words.Given as goal
 
 abbrev pub invariant-loop-k : goal.invariant-loop-k
-invariant-loop-k l = (l.k ≤ l.many)
-    × (l.many < 2 ^ 60)
-    × (l.many ≡ length l.word_ends / 4)
-    × (length l.word_ends / 4 ≡ length l.frequencies / 8)
-    × (l.last ≤ length l.words)
-    × (rise_to (length l.words) l.last (numbers_from 4 l.word_ends l.k) ≡ true)
-    × (length l.room ≡ length l.initial.room)
-    × Entering l.initial.w l.base l.cap l.count l.used (numbers 8 l.frequencies) (numbers_from 8 l.frequencies l.k) (all_decorated l.seeding l.prefix l.suffix l.words l.word_ends) (words_from l.seeding l.prefix l.suffix l.words l.word_ends l.last l.k) l.w l.initial.pieces l.initial.ends l.room l.pieces l.ends l.m l.u
-
-abbrev pub decreases-loop-k : goal.decreases-loop-k
-decreases-loop-k l = l.many - l.k
+invariant-loop-k l = (l.many ≡ length l.t.word_ends.now / 4)
+    × (length l.t.word_ends.now / 4 ≡ length l.t.frequencies.now / 8)
+    × (l.last ≤ length l.t.words.now)
+    × (rise_to (length l.t.words.now) l.last (numbers_from 4 l.t.word_ends.now l.k) ≡ true)
+    × Entering l.fn.set l.ring.base l.ring.cap l.fn.filled.count l.fn.filled.used (numbers 8 l.t.frequencies.now) (numbers_from 8 l.t.frequencies.now l.k)
+    (all_decorated l.t.seeding l.t.prefix.now l.t.suffix.now l.t.words.now l.t.word_ends.now)
+    (words_from l.t.seeding l.t.prefix.now l.t.suffix.now l.t.words.now l.t.word_ends.now l.last l.k)
+    l.so_far.words l.initial.pieces l.initial.ends l.room l.pieces l.ends l.so_far.filled.count l.so_far.filled.used

@@ -5,5 +5,5 @@ use Rattle.fields.proofs.key_of.Goals as goal
 
 ruleset laws = (can_get, rules)
 
-pub get_field-requires : goal.get_field-requires
-get_field-requires c = search laws
+pub get-requires : goal.get-requires
+get-requires c = search laws

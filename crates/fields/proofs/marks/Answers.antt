@@ -5,8 +5,8 @@ use Rattle.fields.proofs.marks.Goals as goal
 
 ruleset laws = (has_get, marks_is, rules)
 
-pub get_field-requires : goal.get_field-requires
-get_field-requires c = search laws
+pub get-requires : goal.get-requires
+get-requires c = search laws
 
 pub returns : goal.returns
 returns c = search laws

@@ -4,8 +4,8 @@ use Rattle.index.proofs.find.Goals as goal
 
 ruleset laws = (find_start, find_at, find_vacant, find_next, find_none, rules)
 
-pub loop-left-init : goal.loop-left-init
-loop-left-init c = search laws
+pub loop-init : goal.loop-init
+loop-init c = search laws
 
 pub returns-then-x-key : goal.returns-then-x-key
 returns-then-x-key c = search laws
@@ -13,8 +13,8 @@ returns-then-x-key c = search laws
 pub returns-then-x-eq0 : goal.returns-then-x-eq0
 returns-then-x-eq0 c = search laws
 
-pub loop-left-preserved : goal.loop-left-preserved
-loop-left-preserved c = search laws
+pub loop-preserved : goal.loop-preserved
+loop-preserved c = search laws
 
 pub returns : goal.returns
 returns c = search laws

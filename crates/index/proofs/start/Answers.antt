@@ -9,5 +9,5 @@ ruleset laws = (start_fits, rules)
 pub returns-then-s-cap : goal.returns-then-s-cap
 returns-then-s-cap c = start_beside _ _ _ c.hash-h.ensures.0 c.if-s-cap.true
 
-pub returns : goal.returns
-returns c = start_row _ _ _ c.hash-h.ensures.0 c.requires.0 (omega (arith, c.if-s-cap.false))
+pub returns-else-s-cap : goal.returns-else-s-cap
+returns-else-s-cap c = start_row _ _ _ c.hash-h.ensures.0 c.requires.0 (omega (arith, c.if-s-cap.false))

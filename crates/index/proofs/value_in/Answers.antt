@@ -1,9 +1,10 @@
 -- `index::value_in` meets its contract: the value stands behind the key.
-use borrow.Author.Rules.{rules}
+use native.Mathlib.Omega.{arith}
 use Rattle.index.proofs.Changes.{get_at}
 use Rattle.index.proofs.value_in.Goals as goal
 
-ruleset laws = (get_at, rules)
+pub returns-then-v-eq0 : goal.returns-then-v-eq0
+returns-then-v-eq0 c = omega (arith, get_at _ _ _ _ _ _ c.requires c.cell-v.ensures)
 
-pub returns : goal.returns
-returns c = search laws
+pub returns-else-v-eq0 : goal.returns-else-v-eq0
+returns-else-v-eq0 c = (get_at _ _ _ _ _ _ c.requires c.cell-v.ensures, omega arith)

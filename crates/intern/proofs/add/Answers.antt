@@ -15,21 +15,21 @@ returns-then-ends-count c =
 pub returns-then-not-fits : goal.returns-then-not-fits
 unfolding Answer Lacks
 returns-then-not-fits c =
-    let g = c.args in
+    let g = c.args.spelling in
     let w = fits_no g.prefix.now g.unit.now g.suffix.now _ _ c.fits.ensures (ap not c.if-not-fits.true) in
     (left _ _ _ _ _ _ _ _ _ c.requires, inr (inl (omega (arith, w, c.requires.ok.rooms.bytes))))
 
 pub returns-then-not-fits-2 : goal.returns-then-not-fits-2
 unfolding Answer Lacks
 returns-then-not-fits-2 c =
-    let g = c.args in
+    let g = c.args.spelling in
     let w = fits_no g.prefix.now g.unit.now g.suffix.now _ _ c.fits-2.ensures (ap not c.if-not-fits-2.true) in
     (left _ _ _ _ _ _ _ _ _ c.requires, inr (inr (omega (arith, w, c.requires.ok.rooms.small))))
 
 pub returns : goal.returns
 unfolding Answer
 returns c =
-    let g = c.args in
+    let g = c.args.spelling in
     let w = fits_yes g.prefix.now g.unit.now g.suffix.now _ _ c.fits.ensures (ap not c.if-not-fits.false) in
     let v = fits_yes g.prefix.now g.unit.now g.suffix.now _ _ c.fits-2.ensures (ap not c.if-not-fits-2.false) in
     let h = c.hash_three-hash.ensures in

@@ -11,7 +11,6 @@ overflow_add-i c = let l = look_small c.requires in let m = c.loop-j-test.true i
 pub loop-j-preserved : goal.loop-j-preserved
 unfolding put
 loop-j-preserved c = let v = c.loop-j.invariant in (
-  search rules,
-  length-put c.loop-j.fs c.loop-j.j c.frequency.result ∙ v.1,
-  weights_more c.requires c.loop-j-test.true c.loop-j.fs v.1 v.2 c.word_at-k.ensures c.frequency.ensures,
+  length-put c.loop-j.fs c.loop-j.j c.frequency.result ∙ v.0,
+  weights_more c.requires c.loop-j-test.true c.loop-j.fs v.0 v.1 c.word_at-k.ensures c.frequency.ensures,
 )

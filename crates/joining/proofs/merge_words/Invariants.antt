@@ -10,9 +10,9 @@ use Rattle.joining.proofs.merge_words.Given as goal
 
 abbrev pub invariant-loop-i : goal.invariant-loop-i
 invariant-loop-i l = (length l.room ≡ length l.initial.room)
-    × (l.many ≡ length (state l.p (cells l.initial.room) (states.key l.a l.b)).words)
+    × (l.many ≡ length (state l.fn.p (cells l.initial.room) (states.key l.rule.a l.rule.b)).words)
     × (l.i ≤ l.many)
-    × Visiting l.a l.b l.x l.initial.v l.p l.r 0 l.i l.m l.v (cells l.initial.room) (cells l.room)
+    × Visiting l.rule.a l.rule.b l.rule.x l.fn.w l.fn.p l.fn.r 0 l.i l.now.touched l.now.words (cells l.initial.room) (cells l.room)
 
 abbrev pub decreases-loop-i : goal.decreases-loop-i
 decreases-loop-i l = l.many - l.i

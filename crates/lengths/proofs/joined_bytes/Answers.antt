@@ -1,9 +1,7 @@
--- `lengths::joined_bytes` meets its contract: of the left piece its ends are enough.
-use borrow.Author.Rules.{rules}
-use Rattle.lengths.proofs.Joined.{rises, ends_inside, joined_is, sum_fits}
+-- `lengths::joined_bytes` meets its contract: of the left piece its length is enough.
+use mathlib.Core.Path.{◌∙◌}
+use Rattle.lengths.proofs.Joined.{measured_lent}
 use Rattle.lengths.proofs.joined_bytes.Goals as goal
 
-ruleset laws = (rises, ends_inside, joined_is, sum_fits, rules)
-
 pub returns : goal.returns
-returns c = search laws
+returns c = c.joined_length.ensures ∙ measured_lent _ c.requires.0 c.requires.1 c.requires.2 c.place_of-before.ensures c.place_of-behind.ensures

@@ -1,17 +1,9 @@
-use borrow.Author.Rules.{rules}
-use Rattle.lines.proofs.Scans.{digits_low, digits_high, digits_over, digits-turn}
+-- `lines::digits_end` meets its contract.
+use Rattle.lines.proofs.Scans.{passed, passed_all}
 use Rattle.lines.proofs.digits_end.Goals as goal
 
-ruleset laws = (digits_low, digits_high, digits_over, digits-turn, rules)
+pub returns-in-Some : goal.returns-in-Some
+returns-in-Some c = passed _ _ c.requires _ c.find_other.ensures c.in-Some.i c.in-Some.is
 
-pub returns-then-run-i-lt-ZERO : goal.returns-then-run-i-lt-ZERO
-returns-then-run-i-lt-ZERO c = search laws
-
-pub returns-then-run-i-gt-NINE : goal.returns-then-run-i-gt-NINE
-returns-then-run-i-gt-NINE c = search laws
-
-pub loop-i-preserved : goal.loop-i-preserved
-loop-i-preserved c = search laws
-
-pub returns : goal.returns
-returns c = search laws
+pub returns-in-None : goal.returns-in-None
+returns-in-None c = passed_all _ _ c.requires _ c.find_other.ensures c.in-None.is

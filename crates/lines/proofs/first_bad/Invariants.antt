@@ -2,12 +2,13 @@
 use mathlib.Core.Path.{◌≡◌}
 use Prim.Native.Nat.{◌+◌, ◌-◌, ◌≤◌}
 use lib.ListN.{length}
-use Rattle.lines.specs.Lines.{bad_among, first_bad}
+use Rattle.lines.specs.Lines.{lines, bad_among, first_bad}
 use Rattle.lines.specs.Places.{lines_from}
 use Rattle.lines.proofs.first_bad.Given as goal
 
 abbrev pub invariant-loop-at : goal.invariant-loop-at
 invariant-loop-at l = (l.at ≤ length l.text) × (l.n ≤ l.at) × (l.n + bad_among (lines_from l.text l.at) ≡ first_bad l.text)
+    × (l.n + length (lines_from l.text l.at) ≡ length (lines l.text))
 
 abbrev pub decreases-loop-at : goal.decreases-loop-at
 decreases-loop-at l = length l.text - l.at

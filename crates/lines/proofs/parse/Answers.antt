@@ -11,8 +11,8 @@ returns-then-has_no_room c = search laws
 pub returns-then-is_too_long : goal.returns-then-is_too_long
 returns-then-is_too_long c = search laws
 
-pub returns-then-bad-count : goal.returns-then-bad-count
-returns-then-bad-count c = search laws
+pub returns-in-Some : goal.returns-in-Some
+returns-in-Some c = search laws
 
 pub write_table-bytes-requires : goal.write_table-bytes-requires
 write_table-bytes-requires c = search laws

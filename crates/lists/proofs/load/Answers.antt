@@ -6,20 +6,20 @@ use Rattle.lists.proofs.load.Goals as goal
 
 ruleset laws = (has_get, loaded, rules)
 
-pub get_field-n-requires : goal.get_field-n-requires
-get_field-n-requires c = search laws
+pub get-n-requires : goal.get-n-requires
+get-n-requires c = search laws
 
-pub get_field-a-requires : goal.get_field-a-requires
-get_field-a-requires c = search laws
+pub get-a-requires : goal.get-a-requires
+get-a-requires c = search laws
 
-pub get_field-b-requires : goal.get_field-b-requires
-get_field-b-requires c = search laws
+pub get-b-requires : goal.get-b-requires
+get-b-requires c = search laws
 
-pub get_field-c-requires : goal.get_field-c-requires
-get_field-c-requires c = search laws
+pub get-c-requires : goal.get-c-requires
+get-c-requires c = search laws
 
-pub get_field-d-requires : goal.get_field-d-requires
-get_field-d-requires c = search laws
+pub get-d-requires : goal.get-d-requires
+get-d-requires c = search laws
 
 pub returns : goal.returns
 returns c = search laws

@@ -2,34 +2,49 @@
 use borrow.Author.Rules.{rules}
 use native.Mathlib.Omega.{arith}
 use Rattle.fields.proofs.Fields.{has_get}
-use Rattle.lists.proofs.Reading.{word_short, word_long_lem, long_room, short_room}
+use Rattle.lists.proofs.Reading.{word_short, word_long_lem, long_room, short_low}
 use Rattle.lists.proofs.word_at.Goals as goal
 
-ruleset laws = (has_get, word_short, word_long_lem, short_room, rules)
+ruleset laws = (has_get, rules)
 
-pub get_field-n-requires : goal.get_field-n-requires
-get_field-n-requires c = search laws
+pub get-n-requires : goal.get-n-requires
+get-n-requires c = search laws
 
-pub overflow_add-at-then-n-le4-4 : goal.overflow_add-at-then-n-le4-4
-overflow_add-at-then-n-le4-4 c = omega (arith, short_room _ _ _ _ c.requires.0 _ _ c.get_field-n.ensures c.requires.1 c.if-n-le4.true, c.requires.0.ok.ix.small)
-
-pub cell-requires : goal.cell-requires
-cell-requires c = search laws
+pub get-requires : goal.get-requires
+get-requires c = has_get _ _ _ _ c.requires.0 _ (short_low _ _ _ _ c.requires.0 _ _ c.get-n.ensures c.requires.1 c.if-n-le4.true)
 
 pub returns-then-n-le4 : goal.returns-then-n-le4
-returns-then-n-le4 c = search laws
+returns-then-n-le4 c = word_short _ _ _ _ c.requires.0 _ _ c.get-n.ensures c.requires.1 _ c.if-n-le4.true c.get.ensures
 
-pub get_field-place-requires : goal.get_field-place-requires
-get_field-place-requires c = search laws
+pub get-place-requires : goal.get-place-requires
+get-place-requires c = search laws
 
-pub overflow_add-at-5 : goal.overflow_add-at-5
-overflow_add-at-5 c = omega (arith, long_room _ _ _ _ c.requires.0 _ _ c.get_field-n.ensures c.requires.1 _ c.if-n-le4.false c.get_field-place.ensures, c.requires.0.ok.ix.small)
-
-pub overflow_add-at-6 : goal.overflow_add-at-6
-overflow_add-at-6 c = omega (arith, long_room _ _ _ _ c.requires.0 _ _ c.get_field-n.ensures c.requires.1 _ c.if-n-le4.false c.get_field-place.ensures, c.requires.0.ok.ix.small)
-
-pub cell-requires-2 : goal.cell-requires-2
-cell-requires-2 c = omega (arith, long_room _ _ _ _ c.requires.0 _ _ c.get_field-n.ensures c.requires.1 _ c.if-n-le4.false c.get_field-place.ensures, c.requires.0.ok.ix.small)
+pub cell-requires : goal.cell-requires
+cell-requires c =
+    rw c.words.ensures (long_room _ _ _ _ c.requires.0 _ _ c.get-n.ensures c.requires.1 _ c.if-n-le4.false c.get-place.ensures)
 
 pub returns : goal.returns
-returns c = search laws
+returns c =
+    word_long_lem _ _ _ _ c.requires.0 _ _ c.get-n.ensures c.requires.1 _ _ c.if-n-le4.false c.get-place.ensures
+    (rw c.words.ensures at c.cell.ensures)
+
+pub overflow_add-j : goal.overflow_add-j
+overflow_add-j c = omega (arith, short_low _ _ _ _ c.requires.0 _ _ c.get-n.ensures c.requires.1 c.if-n-le4.true)
+
+pub overflow_add-words : goal.overflow_add-words
+overflow_add-words c =
+    omega (
+      arith,
+      long_room _ _ _ _ c.requires.0 _ _ c.get-n.ensures c.requires.1 _ c.if-n-le4.false c.get-place.ensures,
+      c.words.ensures,
+      c.requires.0.ok.ix.small,
+    )
+
+pub overflow_add-words-2 : goal.overflow_add-words-2
+overflow_add-words-2 c =
+    omega (
+      arith,
+      long_room _ _ _ _ c.requires.0 _ _ c.get-n.ensures c.requires.1 _ c.if-n-le4.false c.get-place.ensures,
+      c.words.ensures,
+      c.requires.0.ok.ix.small,
+    )

@@ -1,13 +1,9 @@
 -- `merge::merge_all` meets its contract: the first k words are rewritten.
 use mathlib.Core.Path.{◌≡◌}
 use lib.ListN.{length}
-use Prim.Native.Nat.{◌-◌, ◌≤◌}
 use Rattle.cells.specs.Cells.{cells}
 use Rattle.merge.specs.Merging.{Merging}
 use Rattle.merge.proofs.merge_all.Given as goal
 
 abbrev pub invariant-loop-k : goal.invariant-loop-k
-invariant-loop-k l = (length l.room ≡ length l.initial.room) × (l.k ≤ l.w.count) × Merging l.a l.b l.x l.w l.k (cells l.initial.room) (cells l.room) l.v
-
-abbrev pub decreases-loop-k : goal.decreases-loop-k
-decreases-loop-k l = l.w.count - l.k
+invariant-loop-k l = (length l.room ≡ length l.initial.room) × Merging l.rule.a l.rule.b l.rule.x l.fn.w l.k (cells l.initial.room) (cells l.room) l.v

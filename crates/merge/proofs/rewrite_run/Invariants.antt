@@ -6,7 +6,7 @@ use Rattle.merge.specs.Cells.{Run}
 use Rattle.merge.proofs.rewrite_run.Given as goal
 
 abbrev pub invariant-loop-left : goal.invariant-loop-left
-invariant-loop-left l = (length l.room ≡ length l.initial.room) × Run l.a l.b l.x l.start l.n l.kept l.at l.left (cells l.initial.room) (cells l.room)
+invariant-loop-left l = (length l.room ≡ length l.initial.room) × Run l.rule.a l.rule.b l.rule.x l.start l.n l.kept l.at l.left (cells l.initial.room) (cells l.room)
 
 abbrev pub decreases-loop-left : goal.decreases-loop-left
 decreases-loop-left l = l.left

@@ -9,8 +9,8 @@ ruleset laws = (has_get, noted_seen, noted_new, can_short, can_long, rules)
 pub returns-then-seen : goal.returns-then-seen
 returns-then-seen c = search laws
 
-pub get_field-n-requires : goal.get_field-n-requires
-get_field-n-requires c = search laws
+pub get-n-requires : goal.get-n-requires
+get-n-requires c = search laws
 
 pub returns-then-n-lt4 : goal.returns-then-n-lt4
 returns-then-n-lt4 c = search laws

@@ -6,14 +6,14 @@ use Rattle.notes.proofs.seen.Goals as goal
 
 ruleset laws = (has_get, seen_none, seen_some, last_low, rules)
 
-pub get_field-n-requires : goal.get_field-n-requires
-get_field-n-requires c = search laws
+pub get-n-requires : goal.get-n-requires
+get-n-requires c = search laws
 
 pub returns-then-n-eq0 : goal.returns-then-n-eq0
 returns-then-n-eq0 c = search laws
 
-pub word_at-x-requires : goal.word_at-x-requires
-word_at-x-requires c = search laws
+pub word_at-requires : goal.word_at-requires
+word_at-requires c = search laws
 
 pub returns : goal.returns
 returns c = search laws

@@ -1,9 +1,6 @@
 -- `pairs::entry` meets its contract: a key that has a record keeps it, another gets one.
-use borrow.Author.Rules.{rules}
-use Rattle.pairs.proofs.Entries.{entered_old, can_make, entered_new}
+use Rattle.pairs.proofs.Entries.{entered_old}
 use Rattle.pairs.proofs.entry.Goals as goal
 
-ruleset laws = (entered_old, can_make, entered_new, rules)
-
-pub returns-then-v-ne0 : goal.returns-then-v-ne0
-returns-then-v-ne0 c = search laws
+pub returns-in-Some : goal.returns-in-Some
+returns-in-Some c = entered_old _ _ _ _ c.requires c.ask.ensures _ c.in-Some.ensures

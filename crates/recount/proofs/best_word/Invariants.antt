@@ -1,21 +1,17 @@
 -- `recount::best_word` meets its contract: the best so far, and the positions to come, give the best of the word.
 use mathlib.Core.Path.{◌≡◌}
-use Prim.Native.Nat.{◌+◌, ◌≤◌}
-use lib.ListN.{length}
+use Prim.Native.Nat.{◌+◌, ◌-◌, ◌≤◌}
 use Rattle.cells.specs.Cells.{cells}
 use Rattle.rule.specs.Sums.{Under}
 use Rattle.rule.specs.Training.{best, candidates_in, limits}
 use Rattle.intern.specs.Pieces as rooms
 use Rattle.word.specs.Layout.{symbols_at, entry_at, words_in}
-use Rattle.recount.specs.Recount.{ruled, Weighed}
+use Rattle.recount.specs.Recount.{told, Weighed}
 use Rattle.recount.proofs.best_word.Given as goal
 
-abbrev pub invariant-loop-left : goal.invariant-loop-left
-invariant-loop-left l = (l.at + l.left ≤ length (cells l.room))
-    × Under l.count (symbols_at l.at l.left (cells l.room))
+abbrev pub invariant-loop-i : goal.invariant-loop-i
+invariant-loop-i l = (l.i ≤ l.span.length + 1)
+    × Under l.p.filled.count (symbols_at (l.span.start + l.i - 1) (l.span.length + 1 - l.i) (cells l.room))
     × Weighed (words_in l.w (cells l.room)) l.d
-    × (best (ruled l.initial.d) (candidates_in (limits l.prefix l.limit) (rooms.pieces l.pieces l.ends l.count) (words_in l.w (cells l.room)) (entry_at (words_in l.w (cells l.room)) l.k).symbols)
-    ≡ best (ruled l.d) (candidates_in (limits l.prefix l.limit) (rooms.pieces l.pieces l.ends l.count) (words_in l.w (cells l.room)) (symbols_at l.at l.left (cells l.room))))
-
-abbrev pub decreases-loop-left : goal.decreases-loop-left
-decreases-loop-left l = l.left
+    × (best (told l.initial.d) (candidates_in (limits l.prefix l.limit) (rooms.pieces l.p.bytes.now l.p.ends.now l.p.filled.count) (words_in l.w (cells l.room)) (entry_at (words_in l.w (cells l.room)) l.fn.k).symbols)
+    ≡ best (told l.d) (candidates_in (limits l.prefix l.limit) (rooms.pieces l.p.bytes.now l.p.ends.now l.p.filled.count) (words_in l.w (cells l.room)) (symbols_at (l.span.start + l.i - 1) (l.span.length + 1 - l.i) (cells l.room))))

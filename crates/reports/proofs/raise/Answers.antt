@@ -5,8 +5,8 @@ use Rattle.reports.proofs.raise.Goals as goal
 
 ruleset laws = (raise-enter, raise_fits, raise-touch, raise_done, rules)
 
-pub entry-r-requires : goal.entry-r-requires
-entry-r-requires c = search laws
+pub entry-requires : goal.entry-requires
+entry-requires c = search laws
 
 pub returns : goal.returns
 returns c = search laws

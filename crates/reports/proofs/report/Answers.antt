@@ -1,15 +1,12 @@
 -- `reports::report` meets its contract: both sides, one after the other.
-use borrow.Author.Rules.{rules}
 use Rattle.reports.proofs.Sides.{report_first, report_second, report_done}
 use Rattle.reports.proofs.report.Goals as goal
 
-ruleset laws = (report_first, report_second, report_done, rules)
+pub report_before-m-requires : goal.report_before-m-requires
+report_before-m-requires c = report_first _ _ _ _ c.requires
 
-pub side-m-requires : goal.side-m-requires
-side-m-requires c = search laws
-
-pub side-requires : goal.side-requires
-side-requires c = report_second _ _ _ _ _ c.requires c.side-m.ensures
+pub report_after-requires : goal.report_after-requires
+report_after-requires c = report_second _ _ _ _ _ c.requires c.report_before-m.ensures
 
 pub returns : goal.returns
-returns c = search laws
+returns c = report_done _ _ _ _ _ c.report_before-m.ensures c.report_after.ensures

@@ -7,8 +7,8 @@ use Rattle.seeding.proofs.gather_units.Goals as goal
 
 ruleset laws = (gather_slots, gather_room, gather_can, counted_chars, rules)
 
-pub overflow_mul-slots : goal.overflow_mul-slots
-overflow_mul-slots c = search laws
+pub overflow_mul-ring : goal.overflow_mul-ring
+overflow_mul-ring c = search laws
 
 pub clear_cells-requires : goal.clear_cells-requires
 clear_cells-requires c = search laws

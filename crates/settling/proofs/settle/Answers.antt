@@ -1,5 +1,4 @@
 use borrow.Author.Rules.{rules}
-use Prim.Native.Nat.{◌-◌}
 use Rattle.settling.proofs.Loop.{settle_start, settle_can, settle_turn, settle_end}
 use Rattle.settling.proofs.settle.Goals as goal
 

@@ -1,16 +1,11 @@
 -- `settling::settle` meets its contract: the first j on the list are settled.
 use mathlib.Core.Path.{◌≡◌}
-use Prim.Native.Nat.{◌-◌, ◌≤◌}
 use lib.ListN.{length}
 use Rattle.cells.specs.Cells.{cells}
 use Rattle.settling.specs.Settling.{CanSettle, Settling}
 use Rattle.settling.proofs.settle.Given as goal
 
 abbrev pub invariant-loop-j : goal.invariant-loop-j
-invariant-loop-j l = (l.j ≤ l.n)
-    × (length l.room ≡ length l.initial.room)
+invariant-loop-j l = (length l.room ≡ length l.initial.room)
     × CanSettle l.p l.q l.m l.n (cells l.initial.room)
     × Settling l.p l.q l.m l.n l.j (cells l.initial.room) (cells l.room) l.w
-
-abbrev pub decreases-loop-j : goal.decreases-loop-j
-decreases-loop-j l = l.n - l.j

@@ -1,15 +1,18 @@
 -- `settling::settle_one` meets its contract: a pair without a count is removed, any other cleared of its marks.
-use borrow.Author.Rules.{rules}
-use Rattle.settling.proofs.One.{one_live, one_has, one_pos, one_removed, one_can_wait, one_waits}
+use Rattle.settling.proofs.One.{one_removed, one_can_wait, one_waits}
 use Rattle.settling.proofs.settle_one.Goals as goal
 
-ruleset laws = (one_live, one_has, one_pos, one_removed, one_can_wait, one_waits, rules)
-
 pub returns-then-count-eq0 : goal.returns-then-count-eq0
-returns-then-count-eq0 c = search laws
+returns-then-count-eq0 c =
+    one_removed _ _ _ _ _ c.requires _ (rw c.touched.ensures at c.cell-r.ensures) _ c.key_of-key.ensures
+    _ c.count-count.ensures c.if-count-eq0.true _ c.remove.ensures
 
 pub wait-requires : goal.wait-requires
-wait-requires c = search laws
+wait-requires c =
+    one_can_wait _ _ _ _ _ c.requires _ (rw c.touched.ensures at c.cell-r.ensures) _ c.key_of-key.ensures
+    _ _ _ c.marks-v.ensures c.clear-left.ensures c.count-count.ensures _ c.set_marks.ensures c.if-count-eq0.false
 
 pub returns : goal.returns
-returns c = search laws
+returns c =
+    one_waits _ _ _ _ _ c.requires _ (rw c.touched.ensures at c.cell-r.ensures) _ c.key_of-key.ensures
+    _ _ _ c.marks-v.ensures c.clear-left.ensures c.count-count.ensures _ c.set_marks.ensures c.if-count-eq0.false _ _ c.wait.ensures

@@ -8,7 +8,7 @@ ruleset laws = (join_written, rest_is, rules)
 
 pub copy_within-requires-2 : goal.copy_within-requires-2
 copy_within-requires-2 c =
-    omega (arith, rest_is c.args.prefix.now c.args.run.now c.args.right_at c.args.right_n _ c.stripped_length-rest.ensures.0)
+    omega (arith, rest_is c.args.prefix.now c.args.run.now c.args.right.start c.args.right.length _ c.stripped_length-rest.ensures.0)
 
 pub returns : goal.returns
 returns c = search laws

@@ -6,7 +6,7 @@ use Rattle.symbols.specs.Merging.{Counting}
 use Rattle.symbols.proofs.count_reports.Given as goal
 
 abbrev pub invariant-loop-i : goal.invariant-loop-i
-invariant-loop-i l = Counting l.a l.b l.x (numbers 4 l.symbols) l.i l.count l.has l.previous
+invariant-loop-i l = Counting l.rule.a l.rule.b l.rule.x (numbers 4 l.symbols) l.i l.count l.previous
 
 abbrev pub decreases-loop-i : goal.decreases-loop-i
 decreases-loop-i l = length l.symbols / 4 - l.i

@@ -5,7 +5,7 @@ use Rattle.symbols.specs.Merging.{Going}
 use Rattle.symbols.proofs.rewrite.Given as goal
 
 abbrev pub invariant-loop-i : goal.invariant-loop-i
-invariant-loop-i l = Going l.a l.b l.x l.initial.symbols l.initial.changes l.symbols l.changes l.i l.kept l.at l.has l.last
+invariant-loop-i l = Going l.rule.a l.rule.b l.rule.x l.initial.symbols l.initial.changes l.symbols l.changes l.i l.kept l.at l.last
 
 abbrev pub decreases-loop-i : goal.decreases-loop-i
 decreases-loop-i l = length l.initial.symbols / 4 - l.i

@@ -5,11 +5,11 @@ use Rattle.symbols.proofs.write_reports.Goals as goal
 
 ruleset laws = (room_behind, room_ahead, both_sides, rules)
 
-pub write_side-after-requires : goal.write_side-after-requires
-write_side-after-requires c = search laws
-
-pub write_side-requires : goal.write_side-requires
-write_side-requires c = search laws
+pub write_before-middle-requires : goal.write_before-middle-requires
+write_before-middle-requires c = search laws
 
 pub returns : goal.returns
 returns c = search laws
+
+pub write_after-requires : goal.write_after-requires
+write_after-requires c = search laws

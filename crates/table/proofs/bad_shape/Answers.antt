@@ -5,14 +5,14 @@ use Rattle.table.proofs.bad_shape.Goals as goal
 
 ruleset laws = (shape_seeding, shape_frequencies, shape_counts, shape_words, shape_end, rules)
 
-pub returns-then-seeding-gt1 : goal.returns-then-seeding-gt1
-returns-then-seeding-gt1 c = search laws
+pub returns-then-t-gt1 : goal.returns-then-t-gt1
+returns-then-t-gt1 c = search laws
 
-pub returns-then-frequencies-ne0 : goal.returns-then-frequencies-ne0
-returns-then-frequencies-ne0 c = search laws
+pub returns-then-t-ne0 : goal.returns-then-t-ne0
+returns-then-t-ne0 c = search laws
 
-pub returns-then-word_ends-frequencies : goal.returns-then-word_ends-frequencies
-returns-then-word_ends-frequencies c = search laws
+pub returns-then-t : goal.returns-then-t
+returns-then-t c = search laws
 
 pub returns-then-not-is_shaped : goal.returns-then-not-is_shaped
 returns-then-not-is_shaped c = search laws

@@ -1,7 +1,7 @@
 -- `table::weigh` meets its contract: the whole weight and all units are those so far and those from the n-th word on.
 use mathlib.Core.Path.{◌≡◌}
 use mathlib.Core.Bool.{true}
-use Prim.Native.Nat.{◌+◌, ◌-◌, ◌/◌, ◌^◌, ◌≤◌}
+use Prim.Native.Nat.{◌+◌, ◌^◌, ◌≤◌}
 use lib.ListN.{length}
 use Rattle.numbers.specs.Little.{numbers}
 use Rattle.rule.specs.Shapes.{rise_to}
@@ -12,14 +12,10 @@ use Rattle.table.proofs.Weighing.{weight_from, units_from}
 use Rattle.table.proofs.weigh.Given as goal
 
 abbrev pub invariant-loop-n : goal.invariant-loop-n
-invariant-loop-n l = (l.n ≤ l.count)
-    × (l.count ≡ length l.ends / 4)
-    × (l.last ≤ length l.words)
+invariant-loop-n l = (l.last ≤ length l.t.words.now)
     × (l.units ≤ l.last)
     × (l.weight ≤ 2 ^ 53)
-    × (rise_to (length l.words) l.last (numbers_from 4 l.ends l.n) ≡ true)
-    × (capped (weighed (numbers 8 l.frequencies) (units_of l.seeding l.words l.ends)) ≡ capped (l.weight + weight_from l.seeding l.words l.ends l.frequencies l.last l.n))
-    × (unit_count l.seeding l.words l.ends ≡ l.units + units_from l.seeding l.words l.ends l.last l.n)
-
-abbrev pub decreases-loop-n : goal.decreases-loop-n
-decreases-loop-n l = l.count - l.n
+    × (rise_to (length l.t.words.now) l.last (numbers_from 4 l.t.word_ends.now l.n) ≡ true)
+    × (capped (weighed (numbers 8 l.t.frequencies.now) (units_of l.t.seeding l.t.words.now l.t.word_ends.now))
+    ≡ capped (l.weight + weight_from l.t.seeding l.t.words.now l.t.word_ends.now l.t.frequencies.now l.last l.n))
+    × (unit_count l.t.seeding l.t.words.now l.t.word_ends.now ≡ l.units + units_from l.t.seeding l.t.words.now l.t.word_ends.now l.last l.n)

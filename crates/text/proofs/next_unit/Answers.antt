@@ -5,16 +5,16 @@ use Rattle.chars.proofs.Places.{len_small}
 use Rattle.text.proofs.Loops.{next_byte, next_none, next_char}
 use Rattle.text.proofs.next_unit.Goals as goal
 
-ruleset laws = (next_byte, next_none, next_char, rules)
+ruleset laws = (next_byte, next_none, rules)
 
 pub returns-then-not-whole : goal.returns-then-not-whole
 returns-then-not-whole c = search laws
 
-pub returns-then-k-eq0 : goal.returns-then-k-eq0
-returns-then-k-eq0 c = search laws
+pub overflow_add-result-in-Some : goal.overflow_add-result-in-Some
+overflow_add-result-in-Some c = omega (arith, len_small _ _ c.in-Some.ensures)
 
-pub overflow_add-result-2 : goal.overflow_add-result-2
-overflow_add-result-2 c = omega (arith, len_small _ _ c.char_len-k.ensures)
+pub returns-in-Some : goal.returns-in-Some
+returns-in-Some c = search (next_char, c.in-Some.ensures, rules)
 
-pub returns : goal.returns
-returns c = search laws
+pub returns-in-None : goal.returns-in-None
+returns-in-None c = search laws

@@ -6,11 +6,11 @@ use Rattle.trainer.proofs.grow.Goals as goal
 
 ruleset laws = (grow_starts, grow_low, grow_out, grow_done, rules)
 
-pub returns-then-vocab_size-count : goal.returns-then-vocab_size-count
-returns-then-vocab_size-count c = search laws
+pub returns-then-settings-alphabet : goal.returns-then-settings-alphabet
+returns-then-settings-alphabet c = search laws
 
-pub returns-in-NoRoom : goal.returns-in-NoRoom
-returns-in-NoRoom c = grow_out _ _ _ _ _ _ _ _ _ _ _ _ (omega (arith, c.if-vocab_size-count.false)) _ _ _ _ _ c.train_words-r.ensures c.in-NoRoom.is
+pub returns-in-Ok : goal.returns-in-Ok
+returns-in-Ok c = grow_done _ _ _ _ _ _ _ _ _ _ _ _ (omega (arith, c.if-settings-alphabet.false)) _ _ _ _ _ c.train_words-r.ensures _ c.in-Ok.is
 
-pub returns-in-Done : goal.returns-in-Done
-returns-in-Done c = grow_done _ _ _ _ _ _ _ _ _ _ _ _ (omega (arith, c.if-vocab_size-count.false)) _ _ _ _ _ c.train_words-r.ensures _ _ _ c.in-Done.is
+pub returns-in-Err : goal.returns-in-Err
+returns-in-Err c = grow_out _ _ _ _ _ _ _ _ _ _ _ _ (omega (arith, c.if-settings-alphabet.false)) _ _ _ _ _ c.train_words-r.ensures _ c.in-Err.is

@@ -1,0 +1,2 @@
+-- The laws of `inputs`.
+pub mod Reading

@@ -1,0 +1,2 @@
+-- The definitions of `inputs`: the bytes that a text spells.
+pub mod Spelling

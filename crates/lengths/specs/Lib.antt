@@ -1,0 +1,2 @@
+-- The definitions of `lengths`: where a piece stands.
+pub mod Places
