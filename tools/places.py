@@ -82,22 +82,22 @@ def rebuilt():
     return by_line(r"\b(\w+): \w+\.\1,")
 
 
-def answers():
+def declared(paths, pattern):
+    """The lines of these files that begin a declaration of this form."""
     found = []
-    for path in sorted(glob.glob("crates/*/proofs/*/Answers.antt")):
+    for path in sorted(glob.glob(paths, recursive=True)):
         for n, line in enumerate(open(path, encoding="utf-8"), 1):
-            if re.match(r"pub \S+ : goal\.", line):
+            if re.match(pattern, line):
                 found.append(f"{path}:{n}: {line.strip()}")
     return found
+
+
+def answers():
+    return declared("crates/*/proofs/*/**/Answers.antt", r"pub \S+ : goal\.")
 
 
 def laws():
-    found = []
-    for path in sorted(glob.glob("crates/*/proofs/*.antt")):
-        for n, line in enumerate(open(path, encoding="utf-8"), 1):
-            if re.match(r"(?:pub |abbrev |unfoldable )*[^\s:(|=]+ : ", line):
-                found.append(f"{path}:{n}: {line.strip()}")
-    return found
+    return declared("crates/*/proofs/*.antt", r"(?:pub |abbrev |unfoldable )*[^\s:(|=]+ : ")
 
 
 def own_results():
