@@ -70,30 +70,30 @@ pub find_start : (base cap k s : ℕ) (cs : List ℕ) → s ≡ home cap k → s
 unfolding slot
 find_start base cap k s cs e = rw e
 
-module _ (base cap k t i x : ℕ) (cs : List ℕ) (r : Found) where
-  first : r ≡ probe (key_at base cs) cap k (cap - t) i → t < cap → r ≡ probe (key_at base cs) cap k (suc (cap - (t + 1))) i
-  first inv some = let e : cap - t ≡ suc (cap - (t + 1)) = omega arith in inv ∙ ap (λ (m : ℕ). probe (key_at base cs) cap k m i) e
+module _ (base cap k n i x : ℕ) (cs : List ℕ) (r : Found) where
+  first : r ≡ probe (key_at base cs) cap k n i → 0 < n → r ≡ probe (key_at base cs) cap k (suc (n - 1)) i
+  first inv some = let e : n ≡ suc (n - 1) = omega arith in inv ∙ ap (λ (m : ℕ). probe (key_at base cs) cap k m i) e
 
   key_is : x ≡ nth cs (base + 2 * i) → x ≡ key_at base cs i
   key_is e = e ∙ sym (key_cell base cs i)
 
-  pub find_at : r ≡ probe (key_at base cs) cap k (cap - t) i → t < cap → x ≡ nth cs (base + 2 * i) → x ≡ k → At i ≡ r
-  find_at inv some e h = sym (first inv some ∙ probe_at (key_at base cs) cap k (cap - (t + 1)) i (sym (key_is e) ∙ h))
+  pub find_at : r ≡ probe (key_at base cs) cap k n i → 0 < n → x ≡ nth cs (base + 2 * i) → x ≡ k → At i ≡ r
+  find_at inv some e h = sym (first inv some ∙ probe_at (key_at base cs) cap k (n - 1) i (sym (key_is e) ∙ h))
 
-  pub find_vacant : r ≡ probe (key_at base cs) cap k (cap - t) i → t < cap → x ≡ nth cs (base + 2 * i) → (x ≡ k → ⊥) → x ≡ 0 → Vacant i ≡ r
+  pub find_vacant : r ≡ probe (key_at base cs) cap k n i → 0 < n → x ≡ nth cs (base + 2 * i) → (x ≡ k → ⊥) → x ≡ 0 → Vacant i ≡ r
   find_vacant inv some e o h =
-      sym (first inv some ∙ probe-vacant (key_at base cs) cap k (cap - (t + 1)) i (λ q. o (key_is e ∙ q)) (sym (key_is e) ∙ h))
+      sym (first inv some ∙ probe-vacant (key_at base cs) cap k (n - 1) i (λ q. o (key_is e ∙ q)) (sym (key_is e) ∙ h))
 
-  pub find_next : r ≡ probe (key_at base cs) cap k (cap - t) i → t < cap → x ≡ nth cs (base + 2 * i) → (x ≡ k → ⊥) → (x ≡ 0 → ⊥)
-      → (m : ℕ) → m ≡ after cap i → r ≡ probe (key_at base cs) cap k (cap - (t + 1)) m
-  find_next inv some e o h m q =
-      first inv some
-      ∙ probe_next (key_at base cs) cap k (cap - (t + 1)) i (λ z. o (key_is e ∙ z)) (λ z. h (key_is e ∙ z))
-      ∙ ap (λ (j : ℕ). probe (key_at base cs) cap k (cap - (t + 1)) j) (sym q)
+  pub find_next : r ≡ probe (key_at base cs) cap k n i → 0 < n → x ≡ nth cs (base + 2 * i) → (x ≡ k → ⊥) → (x ≡ 0 → ⊥)
+      → (m l : ℕ) → m ≡ after cap i → l ≡ n - 1 → r ≡ probe (key_at base cs) cap k l m
+  find_next inv some e o h m l q f =
+      rw f (first inv some
+      ∙ probe_next (key_at base cs) cap k (n - 1) i (λ z. o (key_is e ∙ z)) (λ z. h (key_is e ∙ z))
+      ∙ ap (λ (j : ℕ). probe (key_at base cs) cap k (n - 1) j) (sym q))
 
-  pub find_none : r ≡ probe (key_at base cs) cap k (cap - t) i → cap ≤ t → Full ≡ r
+  pub find_none : r ≡ probe (key_at base cs) cap k n i → n ≤ 0 → Full ≡ r
   find_none inv h =
-      let z : cap - t ≡ 0 = omega arith in
+      let z : n ≡ 0 = omega arith in
       sym (inv ∙ ap (λ (m : ℕ). probe (key_at base cs) cap k m i) z ∙ probe_none (key_at base cs) cap k i)
 
 -- THE VALUE, by where the key is

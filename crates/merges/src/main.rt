@@ -34,7 +34,7 @@ fn hex_line(rt: &impl Print, name: &[u8], s: &[u8]) -> io::Result<()> {
 // The checksum of some bytes behind those that come to `start`.
 fn fold(start: u32, s: &[u8]) -> u32 {
     s.iter().fold(start, |sum, b| {
-        sum.wrapping_add(u32::from(*b)).wrapping_mul(16777619)
+        ((u64::from(sum) + numbers::wide(*b)) * 16777619 % 4294967296) as u32
     })
 }
 

@@ -74,7 +74,7 @@ fn digits<'a>(s: &'a [u8], k: usize) -> &'a [u8] {
 // The checksum of some bytes behind those that come to `start`.
 fn fold(start: u32, s: &[u8]) -> u32 {
     s.iter().fold(start, |h, b| {
-        h.wrapping_mul(31).wrapping_add(u32::from(*b))
+        ((u64::from(h) * 31 + numbers::wide(*b)) % 4294967296) as u32
     })
 }
 

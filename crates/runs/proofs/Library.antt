@@ -1,4 +1,4 @@
--- What the library's `fill`, `copy_from_slice` and `copy_within` leave is a list laid over another. Assumes nothing.
+-- What the library's `fill` and `copy_within` leave is a list laid over another. Assumes nothing.
 use mathlib.Core.Path.{◌≡◌, sym, ap, ◌∙◌}
 use mathlib.Core.List.{List, append_assoc}
 use Prim.Native.Nat.{ℕ, ◌+◌, ◌-◌, ◌≤◌}
@@ -21,9 +21,6 @@ module _ (xs : List ℕ) (at n : ℕ) where
   pub cleared : (ys : List ℕ) → ys ≡ replicate n 0 → put_mid at (at + n - at) xs ys ≡ laid xs at (zeros n)
   unfolding zeros
   cleared ys e = mid_laid xs ys at n (ap length e ∙ length-zeros n) ∙ ap (laid xs at) e
-
-  pub copied : (ys other : List ℕ) → length other ≡ n → ys ≡ other → put_mid at (at + n - at) xs ys ≡ laid xs at other
-  copied ys other l e = mid_laid xs ys at n (ap length e ∙ l) ∙ ap (laid xs at) e
 
   pub copied_within : (from : ℕ) → from + n ≤ length xs → copy_within xs from (from + n) at ≡ laid xs at (part from n xs)
   unfolding laid

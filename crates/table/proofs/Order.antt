@@ -3,7 +3,7 @@ use mathlib.Core.Path.{◌≡◌, refl, sym, ap, ◌∙◌}
 use mathlib.Core.Bool.{Bool, true, false, not}
 use mathlib.Core.List.{List, ◌∷◌}
 use Prim.Native.Nat.{ℕ, ◌+◌, ◌-◌, ◌/◌, ◌≤◌, ◌<◌}
-use lib.ListN.{length, take, drop}
+use lib.ListN.{length}
 use Rattle.std.specs.declared.cmp.Ordering.{Ordering}
 use Rattle.std.specs.declared.cmp.Ordering.TheVariants.{Less, Equal, Greater}
 use Rattle.std.specs.Ordering.{is_lt}
@@ -58,9 +58,9 @@ module _ (ws es : List ℕ) where
     low_end h = sym (inv ∙ rw (parts_end ws es i to h) (place_end i))
 
     module _ (e : ℕ) (h : i < length es / 4) (q : e ≡ nth (numbers 4 es) i) (b : Bool)
-        (f : b ≡ below (take (to - from) (drop from ws)) (take (e - to) (drop to ws))) where
+        (f : b ≡ below (part from (to - from) ws) (part to (e - to) ws)) where
       here : low_from ws from to es i ≡ place_from i (not b ∷ not_above (part to (e - to) ws ∷ parts ws e (numbers_from 4 es (i + 1))))
-      unfolding low_from not_above part
+      unfolding low_from not_above
       here = rw (parts_step ws es i to e h q, f)
 
       pub low_out : not b ≡ true → Some i ≡ k

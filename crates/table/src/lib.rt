@@ -129,12 +129,14 @@ fn first_zero(frequencies: &[u8]) -> Option<usize>
     None
 }
 
-// Tells whether a word is below the one after it.
+// Tells whether the word from `from` to `to` is below the one from there to `end`.
+// Stays: by places, as order::compare_within takes two parts: nothing else calls it.
 #[tactic(auto, using(crate::proofs::Order::below_lent))]
-fn goes_up(word: &[u8], after: &[u8]) -> bool
-    ensures { result ≡ below word.now after.now }
+fn goes_up(words: &[u8], from: usize, to: usize, end: usize) -> bool
+    requires { (from ≤ to) × (to ≤ end) × (end ≤ length words.now) }
+    ensures { result ≡ below (part from (to - from) words.now) (part to (end - to) words.now) }
 {
-    order::compare(word, after).is_lt()
+    order::compare_within(words, from, to - from, to, end - to).is_lt()
 }
 
 // Row 5: the first word that is not above the one before it.
@@ -147,7 +149,7 @@ fn first_low(words: &[u8], ends: &[u8]) -> Option<usize>
     let mut to = vocab::end_at(ends, 0);
     for k in 1..ends.len() / 4 {
         let end = vocab::end_at(ends, k);
-        if !goes_up(&words[from..to], &words[to..end]) {
+        if !goes_up(words, from, to, end) {
             return Some(k);
         }
         from = to;
